@@ -1,0 +1,4 @@
+pub mod If
+pub mod Scan
+pub mod Tabulate
+pub mod Overwrite

@@ -1,0 +1,30 @@
+-- A call's answer in document 01's terms (Numbers of refusal).
+-- Assumes nothing.
+use mathlib.Core.Bool.{Bool, true, false}
+use mathlib.Core.List.{List}
+use Prim.Native.Nat.{ℕ}
+use Rattle.base.specs.Overwrite.{putAt}
+
+-- refused under a number, with the values that the refusal gives; or done, with what the call gives
+pub data Answer (A : Type 0) : Type 0 where
+  refused : ℕ → List ℕ → Answer A
+  gives : A → Answer A
+
+abbrev pub mapAnswer : {A B : Type 0} → (A → B) → Answer A → Answer B
+mapAnswer g (refused n v) = refused n v
+mapAnswer g (gives x) = gives (g x)
+
+abbrev pub isGiven : {A : Type 0} → Answer A → Bool
+isGiven (refused n v) = false
+isGiven (gives x) = true
+
+-- the number of the table; 0 where the call is done
+abbrev pub numberOf : {A : Type 0} → Answer A → ℕ
+numberOf (refused n v) = n
+numberOf (gives x) = 0
+
+-- what a lent buffer holds after a call that gives it bytes: "Files and texts start at the buffer's first byte; bytes past them
+-- stay"; a refusal "changes nothing lent"
+abbrev pub bufferAfter : List ℕ → Answer (List ℕ) → List ℕ
+bufferAfter b (refused n v) = b
+bufferAfter b (gives bytes) = putAt b 0 bytes

@@ -1,0 +1,162 @@
+-- What acceptance says of a file.
+-- Assumes nothing.
+use mathlib.Core.Path.{_≡_, refl, sym, _∙_}
+use mathlib.Core.Bool.{Bool, true, false, _&&_, not}
+use mathlib.Core.List.{List, []}
+use Prim.Native.Nat.{ℕ, _+_, _-_, _≤_, _<_}
+use native.Mathlib.Omega.{arith}
+use lib.Dec.{eqb, ltb, leb}
+use lib.ListN.{length, length-take, length-drop}
+use borrow.Author.Tests.{ltb-true, leb-true, eqb-true, eq-eqb, le-leb}
+use Rattle.base.specs.If.{if_then_else_, and-left, and-right}
+use Rattle.base.specs.Scan.{scan-ge}
+use Rattle.word.specs.Word.{word}
+use Rattle.word.specs.Nul.{notNul, nulFrom}
+use Rattle.caps.specs.declared.Place.{Place}
+use Rattle.entry.specs.declared.Sizes.{Sizes}
+use Rattle.entry.specs.declared.Offset.{Offset}
+use Rattle.entry.specs.Limits.{magic, headerSize, fileMost, namesLeast, namesMost}
+use Rattle.entry.specs.State.{State, absent, cancelled, present, mapState, half}
+use Rattle.entry.specs.Answer.{Answer, refused, gives}
+use Rattle.entry.specs.Layout.{sizesOf, booleansAt, numbersAt, stringsAt, tableAt, sizeOf}
+use Rattle.entry.specs.Reading.{bytesOf, offset, okCounts, okNames, okBooleans, okPad, okNumbers, okOffset, okStrings, reading, namesPart, slotIn, numberIn, offsetIn, contentAt, partIn, stringIn}
+use Rattle.entry_laws.specs.Sound.{NoNul, NumberFits, ContentFree}
+use Rattle.entry_laws.specs.Nul.{before-nul-free}
+use Rattle.entry_laws.specs.Slots.{Passes, slots-pass}
+
+pub record Accepted (f : List ℕ) : Type 0 where
+  pub least : headerSize ≤ length f
+  pub most : length f ≤ fileMost
+  pub magical : word 2 f 0 ≡ magic
+  pub counts : okCounts (sizesOf f) ≡ true
+  pub size : length f ≡ sizeOf (sizesOf f)
+  pub names : okNames f (sizesOf f) ≡ true
+  pub booleans : okBooleans f (sizesOf f) ≡ true
+  pub pad : okPad f (sizesOf f) ≡ true
+  pub numbers : okNumbers f (sizesOf f) ≡ true
+  pub strings : okStrings f (sizesOf f) ≡ true
+
+-- an answer that is given passed the test that would have refused it
+pub passed : {A : Type 0} (t : Bool) (n : ℕ) (v : List ℕ) (a : Answer A) (x : A)
+    → (if not t then refused n v else a) ≡ gives x → (t ≡ true) × (a ≡ gives x)
+passed true n v a x e = (refl, e)
+passed false n v a x e = absurd (let z : _≡_ {A = ℕ} 0 1 = cc in (let y : ⊥ = omega arith in y))
+
+pub accepted-facts : (f : List ℕ) (s : Sizes) → reading f ≡ gives s → Accepted f
+unfolding reading
+accepted-facts f s e =
+    let z : Sizes = sizesOf f in
+    let lengths : Bool = leb headerSize (length f) && leb (length f) fileMost in
+    let tables : Bool = okBooleans f z && okPad f z in
+    let a₈ : Answer Sizes = if not (okStrings f z) then refused 7 [] else gives z in
+    let a₇ : Answer Sizes = if not (okNumbers f z) then refused 6 [] else a₈ in
+    let a₆ : Answer Sizes = if not tables then refused 5 [] else a₇ in
+    let a₅ : Answer Sizes = if not (okNames f z) then refused 4 [] else a₆ in
+    let a₄ : Answer Sizes = if not (eqb (length f) (sizeOf z)) then refused 1 [] else a₅ in
+    let a₃ : Answer Sizes = if not (okCounts z) then refused 3 [] else a₄ in
+    let a₂ : Answer Sizes = if not (eqb (word 2 f 0) magic) then refused 2 [] else a₃ in
+    let p₁ = passed lengths 1 [] a₂ s e in
+    let p₂ = passed (eqb (word 2 f 0) magic) 2 [] a₃ s (p₁ .1) in
+    let p₃ = passed (okCounts z) 3 [] a₄ s (p₂ .1) in
+    let p₄ = passed (eqb (length f) (sizeOf z)) 1 [] a₅ s (p₃ .1) in
+    let p₅ = passed (okNames f z) 4 [] a₆ s (p₄ .1) in
+    let p₆ = passed tables 5 [] a₇ s (p₅ .1) in
+    let p₇ = passed (okNumbers f z) 6 [] a₈ s (p₆ .1) in
+    let p₈ = passed (okStrings f z) 7 [] (gives z) s (p₇ .1) in
+    record {
+      least = leb-true _ _ (and-left (leb headerSize (length f)) _ (p₁ .0));
+      most = leb-true _ _ (and-right (leb headerSize (length f)) _ (p₁ .0));
+      magical = eqb-true _ _ (p₂ .0);
+      counts = p₃ .0;
+      size = eqb-true _ _ (p₄ .0);
+      names = p₅ .0;
+      booleans = and-left (okBooleans f z) _ (p₆ .0);
+      pad = and-right (okBooleans f z) _ (p₆ .0);
+      numbers = p₇ .0;
+      strings = p₈ .0;
+    }
+
+pub reading-accepted : (f : List ℕ) → Accepted f → reading f ≡ gives (sizesOf f)
+unfolding reading
+reading-accepted f a =
+    rw (
+      le-leb headerSize (length f) (a .least),
+      le-leb (length f) fileMost (a .most),
+      eq-eqb (word 2 f 0) magic (a .magical),
+      a .counts,
+      eq-eqb (length f) (sizeOf (sizesOf f)) (a .size),
+      a .names,
+      a .booleans,
+      a .pad,
+      a .numbers,
+      a .strings,
+    )
+
+-- what is given is the header's sizes
+pub accepted-sizes : (f : List ℕ) (s : Sizes) → reading f ≡ gives s → s ≡ sizesOf f
+accepted-sizes f s e = let q : gives s ≡ gives (sizesOf f) = sym e ∙ reading-accepted f (accepted-facts f s e) in cc
+
+-- ---- counts
+
+pub counts-names-least : (s : Sizes) → okCounts s ≡ true → namesLeast ≤ s .names
+unfolding okCounts
+counts-names-least s h = leb-true _ _ (and-left (leb namesLeast (s .names)) _ h)
+
+pub counts-names-most : (s : Sizes) → okCounts s ≡ true → s .names ≤ namesMost
+unfolding okCounts
+counts-names-most s h = leb-true _ _ (and-left (leb (s .names) namesMost) _ (and-right (leb namesLeast (s .names)) _ h))
+
+-- ---- contents, numbers and names
+
+content-free : (f : List ℕ) (s : Sizes) (o : Offset) → NoNul (bytesOf f (contentAt f s o))
+unfolding contentAt
+content-free f s o =
+    let g : tableAt s + o .0 ≤ nulFrom f (tableAt s + o .0) (sizeOf s) = scan-ge (notNul f) (tableAt s + o .0) (sizeOf s - (tableAt s + o .0)) in
+    before-nul-free f (tableAt s + o .0) (sizeOf s) (nulFrom f (tableAt s + o .0) (sizeOf s) - (tableAt s + o .0)) (omega arith)
+
+-- contents hold no NUL, whatever the file
+pub string-free : (f : List ℕ) (s : Sizes) (p : Place) → ContentFree (stringIn f s p)
+unfolding stringIn partIn offsetIn
+string-free f s p = by-slot (slotIn 2 f (stringsAt s) (s .strings) p)
+  where
+    by-slot : (t : State ℕ) → ContentFree (mapState (bytesOf f) (mapState (contentAt f s) (mapState offset t)))
+    by-slot absent = tt
+    by-slot cancelled = tt
+    by-slot (present c) = content-free f s (offset c)
+
+module _ (f : List ℕ) (a : Accepted f) where
+  pub number-fits : (p : Place) → NumberFits (numberIn f (sizesOf f) p)
+  unfolding numberIn okNumbers
+  number-fits p =
+      by-slot (slotIn 2 f (numbersAt (sizesOf f)) (sizesOf f .numbers) p)
+      (slots-pass 2 (λ c. ltb c (half 2)) f (numbersAt (sizesOf f)) (sizesOf f .numbers) (a .numbers) p)
+    where
+      by-slot : (t : State ℕ) → Passes (λ c. ltb c (half 2)) t → NumberFits t
+      by-slot absent h = tt
+      by-slot cancelled h = tt
+      by-slot (present n) h = let l : n < half 2 = ltb-true n (half 2) h in omega arith
+
+  -- an offset that a slot presents is good
+  pub offset-fits : (p : Place) → Passes (λ c. okOffset f (sizesOf f) (offset c)) (slotIn 2 f (stringsAt (sizesOf f)) (sizesOf f .strings) p)
+  unfolding okStrings
+  offset-fits p = slots-pass 2 (λ c. okOffset f (sizesOf f) (offset c)) f (stringsAt (sizesOf f)) (sizesOf f .strings) (a .strings) p
+
+  pub names-length : length (bytesOf f (namesPart (sizesOf f))) ≡ sizesOf f .names - 1
+  unfolding namesPart
+  names-length =
+      let n : namesLeast ≤ sizesOf f .names = counts-names-least (sizesOf f) (a .counts) in
+      let z : length f ≡ sizeOf (sizesOf f) = a .size in
+      rw (length-take, length-drop) (omega arith)
+
+  pub names-least : 1 ≤ length (bytesOf f (namesPart (sizesOf f)))
+  names-least = let n : namesLeast ≤ sizesOf f .names = counts-names-least (sizesOf f) (a .counts) in rw names-length (omega arith)
+
+  pub names-most : length (bytesOf f (namesPart (sizesOf f))) ≤ 127
+  names-most = let n : sizesOf f .names ≤ namesMost = counts-names-most (sizesOf f) (a .counts) in rw names-length (omega arith)
+
+  pub names-free : NoNul (bytesOf f (namesPart (sizesOf f)))
+  unfolding namesPart okNames
+  names-free =
+      let n : namesLeast ≤ sizesOf f .names = counts-names-least (sizesOf f) (a .counts) in
+      let z : nulFrom f headerSize (booleansAt (sizesOf f)) ≡ booleansAt (sizesOf f) - 1 = eqb-true _ _ (a .names) in
+      before-nul-free f headerSize (booleansAt (sizesOf f)) (sizesOf f .names - 1) (omega arith)

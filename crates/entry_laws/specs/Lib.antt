@@ -1,0 +1,9 @@
+pub mod Sound
+pub mod Nul
+pub mod Parts
+pub mod Slots
+pub mod Accepted
+pub mod Round
+pub mod Handed
+pub mod Asked
+pub mod Demands

@@ -1,0 +1,1 @@
+// Theorems about compiled entries. No code: see specs/.

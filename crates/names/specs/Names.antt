@@ -1,0 +1,52 @@
+-- The three ordered lists of names, in compiled order (document 01: Three ordered lists).
+-- Assumes nothing.
+use Prim.Native.Nat.{ℕ}
+use Prim.Native.Char.{code}
+use Prim.Native.String.{String}
+use Prim.Native.String.String.{[] as empty, _∷_ as join}
+use mathlib.Core.List.{List, [], _∷_, _++_}
+use lib.Dec.{eqb}
+use lib.ListN.{length, getD}
+use Rattle.base.specs.If.{if_then_else_}
+use Rattle.caps.specs.declared.Kind.{Kind}
+use Rattle.caps.specs.declared.Kind.the-variants as Kinds
+
+-- a quoted text as bytes
+unfoldable pub ascii : String → List ℕ
+ascii empty = []
+ascii (join c s) = code c ∷ ascii s
+
+-- one more byte in front of the first name
+abbrev pub onFirst : ℕ → List (List ℕ) → List (List ℕ)
+onFirst b [] = (b ∷ []) ∷ []
+onFirst b (n ∷ ns) = (b ∷ n) ∷ ns
+
+-- the names between single spaces
+unfoldable pub parted : List ℕ → List (List ℕ)
+parted [] = [] ∷ []
+parted (b ∷ s) = if eqb b 32 then [] ∷ parted s else onFirst b (parted s)
+
+unfoldable pub named : String → List (List ℕ)
+named s = parted (ascii s)
+
+-- Booleans, 21 in the first edition
+unfoldable pub booleanNames : List (List ℕ)
+booleanNames = named "bw am xsb xhp xenl eo gn hc km hs in da db mir msgr os eslok xt hz ul xon"
+
+-- Numbers, 8
+unfoldable pub numberNames : List (List ℕ)
+numberNames = named "cols it lines lm xmc pb vt wsl"
+
+-- Strings, 138
+unfoldable pub stringNames : List (List ℕ)
+stringNames = named "cbt bel cr csr tbc clear el ed hpa cmdch cup cud1 home civis cub1 mrcup cnorm cuf1 ll cuu1 cvvis dch1 dl1 dsl hd smacs blink bold smcup smdc dim smir invis prot rev smso smul ech rmacs sgr0 rmcup rmdc rmir rmso rmul flash ff fsl is1 is2 is3 if ich1 il1 ip kbs ktbc kclr kctab kdch1 kdl1 kcud1 krmir kel ked kf0 kf1 kf10 kf2 kf3 kf4 kf5 kf6 kf7 kf8 kf9 khome kich1 kil1 kcub1 kll knp kpp kcuf1 kind kri khts kcuu1 rmkx smkx lf0 lf1 lf10 lf2 lf3 lf4 lf5 lf6 lf7 lf8 lf9 rmm smm nel pad dch dl cud ich indn il cub cuf rin cuu pfkey pfloc pfx mc0 mc4 mc5 rep rs1 rs2 rs3 rf rc vpa sc ind ri sgr hts wind ht tsl uc hu"
+
+-- the names of a kind of capability
+abbrev pub namesOf : Kind → List (List ℕ)
+namesOf Kinds.Boolean = booleanNames
+namesOf Kinds.Number = numberNames
+namesOf Kinds.String = stringNames
+
+-- all names: booleans, numbers, strings
+unfoldable pub allNames : List (List ℕ)
+allNames = booleanNames ++ (numberNames ++ stringNames)

@@ -1,0 +1,52 @@
+-- Names by kind and place, and as the code's table has them.
+-- Assumes nothing.
+use mathlib.Core.Path.{_≡_, refl, sym, ap, _∙_}
+use mathlib.Core.List.{List, [], _∷_, map}
+use Prim.Native.Nat.{ℕ}
+use lib.Dec.{eqb}
+use lib.ListN.{length, getD, List·getD-map}
+use Rattle.base.specs.If.{if_then_else_}
+use Rattle.word.specs.Word.{word, bytes}
+use Rattle.caps.specs.declared.Kind.{Kind}
+use Rattle.caps.specs.declared.Place.{Place}
+use Rattle.caps.specs.Edition.{knows}
+use Rattle.entry.specs.Answer.{Answer, refused, gives}
+use Rattle.names.specs.declared.Name.{Name}
+use Rattle.names.specs.declared.Name.the-variants as N
+use Rattle.names.specs.Names.{ascii, parted, named, booleanNames, numberNames, stringNames, namesOf, allNames}
+
+-- the name at a place of a kind's list; 17 beyond the list
+unfoldable pub naming : Kind → Place → Answer (List ℕ)
+naming k p = if knows (length (namesOf k)) p then gives (getD (namesOf k) (p .0) []) else refused 17 []
+
+-- a name of at most eight bytes as a number, low byte first
+unfoldable pub packed : List ℕ → ℕ
+packed n = word 8 n 0
+
+-- the bytes before the first NUL
+unfoldable pub beforeNul : List ℕ → List ℕ
+beforeNul [] = []
+beforeNul (b ∷ s) = if eqb b 0 then [] else b ∷ beforeNul s
+
+unfoldable pub unpacked : ℕ → List ℕ
+unpacked w = beforeNul (bytes 8 w)
+
+abbrev pub saysName : Name → Answer (List ℕ)
+saysName (N.Packed w) = gives (unpacked w)
+saysName N.Beyond = refused 17 []
+
+-- all names as the code's table has them
+unfoldable pub packedNames : List ℕ
+packedNames = map packed allNames
+
+-- ---- laws
+
+-- one computed test: every name comes back from its number
+pub unpacked-all : map unpacked packedNames ≡ allNames
+unfolding packedNames packed unpacked beforeNul word bytes allNames booleanNames numberNames stringNames named parted ascii
+unpacked-all = refl
+
+-- and so does the name at each place
+pub unpacked-at : (k : ℕ) → unpacked (getD packedNames k 0) ≡ getD allNames k []
+unfolding unpacked beforeNul bytes
+unpacked-at k = sym (List·getD-map unpacked packedNames k 0) ∙ ap (λ (l : List (List ℕ)). getD l k []) unpacked-all
