@@ -1,13 +1,13 @@
 -- A list with other elements from a place on, and the laws that a writer's steps follow.
 -- Assumes nothing.
 use mathlib.Core.Path.{_≡_, refl, sym, ap, _∙_}
-use mathlib.Core.List.{List, [], _∷_, _++_, append-assoc}
+use mathlib.Core.List.{List, [], _∷_, _++_, append-assoc, append-nil}
 use Prim.Native.Nat.{ℕ, zero, suc, _+_, _-_, _≤_, _<_}
 use native.Mathlib.Nat.{add-zero}
 use native.Mathlib.Omega.{arith}
 use native.Mathlib.Numerals.{add-one}
 use lib.ListN.{length, take, drop, set, getD, length-append, length-drop, take-append-drop}
-use lib.Seq.{length-take-le, take-suc, take-at, drop-drop, set-split, drop-append-add}
+use lib.Seq.{length-take-le, take-suc, take-at, drop-drop, set-split, drop-append-add, drop-length}
 
 -- b with xs in place of its elements from at on
 unfoldable pub putAt : {A : Type 0} → List A → ℕ → List A → List A
@@ -71,3 +71,7 @@ put-copy b₀ b at i s d h l e =
     let n : length (take i s) ≡ i = length-take-le i s (omega arith) in
     let m : take (i + 1) s ≡ take i s ++ (getD s i d ∷ []) = ap (λ (k : ℕ). take k s) (add-one i) ∙ take-suc s i d l in
     put-store b₀ b at (at + i) (getD s i d) (take i s) (take (i + 1) s) e (omega arith) m (omega arith)
+
+-- a whole list replaced
+pub put-whole : {A : Type 0} (b xs : List A) → length xs ≡ length b → putAt b 0 xs ≡ xs
+put-whole b xs e = put-front b xs ∙ rw (e, drop-length b) (append-nil xs)

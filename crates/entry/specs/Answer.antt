@@ -14,6 +14,11 @@ abbrev pub mapAnswer : {A B : Type 0} → (A → B) → Answer A → Answer B
 mapAnswer g (refused n v) = refused n v
 mapAnswer g (gives x) = gives (g x)
 
+-- the first answer's refusal, else the second answer
+abbrev pub andThen : {A B : Type 0} → Answer A → Answer B → Answer B
+andThen (refused n v) b = refused n v
+andThen (gives x) b = b
+
 abbrev pub isGiven : {A : Type 0} → Answer A → Bool
 isGiven (refused n v) = false
 isGiven (gives x) = true

@@ -5,4 +5,5 @@ pub mod Layout
 pub mod Reading
 pub mod Asking
 pub mod Writing
+pub mod Merging
 pub mod Says

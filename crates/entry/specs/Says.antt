@@ -20,6 +20,8 @@ use Rattle.entry.specs.declared.StringState.{StringState}
 use Rattle.entry.specs.declared.StringState.the-variants as S
 use Rattle.entry.specs.declared.Written.{Written}
 use Rattle.entry.specs.declared.Written.the-variants as W
+use Rattle.entry.specs.declared.Merged.{Merged}
+use Rattle.entry.specs.declared.Merged.the-variants as G
 use Rattle.entry.specs.State.{State, absent, cancelled, present}
 use Rattle.entry.specs.Answer.{Answer, refused, gives}
 use Rattle.entry.specs.Asking.{Opening}
@@ -73,3 +75,12 @@ saysWritten W.Lent = refused 7 []
 saysWritten W.Limit = refused 13 []
 saysWritten W.Size = refused 9 []
 saysWritten (W.Room n) = refused 8 (n ∷ [])
+
+-- what is given is the file's length
+abbrev pub saysMerged : Merged → Answer ℕ
+saysMerged (G.File n) = gives n
+saysMerged G.Edition = refused 3 []
+saysMerged (G.First r) = refused (fileNumber r) []
+saysMerged (G.Second r) = refused (fileNumber r) []
+saysMerged G.Size = refused 9 []
+saysMerged (G.Room n) = refused 8 (n ∷ [])

@@ -121,3 +121,19 @@ pub enum Written {
     // 8: the buffer is too short; the file's length
     Room(usize),
 }
+
+// What merging answers.
+pub enum Merged {
+    // the file's length
+    File(usize),
+    // 3: the edition is too large
+    Edition,
+    // 1 to 7: why the first file is refused
+    First(FileRefusal),
+    // 1 to 7: why the second file is refused
+    Second(FileRefusal),
+    // 9: the file would be longer than 4,096 bytes
+    Size,
+    // 8: the buffer is too short; the file's length
+    Room(usize),
+}

@@ -7,3 +7,5 @@ pub mod Round
 pub mod Handed
 pub mod Asked
 pub mod Demands
+pub mod Merge
+pub mod MergeDemands

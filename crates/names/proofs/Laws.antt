@@ -14,11 +14,11 @@ use Rattle.caps.specs.declared.Place.{Place}
 use Rattle.caps.specs.declared.Kind.the-variants as Kinds
 use Rattle.entry.specs.Answer.{Answer, refused, gives}
 use Rattle.names.specs.Names.{ascii, parted, named, booleanNames, numberNames, stringNames, allNames}
-use Rattle.names.specs.Naming.{naming}
+use Rattle.names.specs.Naming.{packed, naming}
 
 -- a list that stands in all names from first on
 listed : (names all : List (List ℕ)) (first count : ℕ) → length names ≡ count → ((i : ℕ) → i < count → getD all (first + i) [] ≡ getD names i []) → (p : Place)
-    → _≡_ {A = Answer (List ℕ)} (if ltb (p .0) count then gives (getD all (first + p .0) []) else refused 17 []) (if ltb (p .0) (length names) then gives (getD names (p .0) []) else refused 17 [])
+    → _≡_ {A = Answer ℕ} (if ltb (p .0) count then gives (packed (getD all (first + p .0) [])) else refused 17 []) (if ltb (p .0) (length names) then gives (packed (getD names (p .0) [])) else refused 17 [])
 listed names all first count e h p =
     rw e (below-or (p .0) count (λ l. rw (lt-ltb (p .0) count l, h (p .0) l)) (λ l. rw (le-ltb (p .0) count l)))
 
@@ -34,14 +34,14 @@ strings-length : length stringNames ≡ 138
 unfolding stringNames named parted ascii
 strings-length = refl
 
-pub named-boolean : (p : Place) → (if ltb (p .0) 21 then gives (getD allNames (0 + p .0) []) else refused 17 []) ≡ naming Kinds.Boolean p
+pub named-boolean : (p : Place) → (if ltb (p .0) 21 then gives (packed (getD allNames (0 + p .0) [])) else refused 17 []) ≡ naming Kinds.Boolean p
 unfolding naming allNames
 named-boolean p =
     listed booleanNames allNames 0 21 booleans-length (λ i l.
     let e : 0 + i ≡ i = omega arith in
     rw e (List·getD-append booleanNames (numberNames ++ stringNames) [] i (rw booleans-length l))) p
 
-pub named-number : (p : Place) → (if ltb (p .0) 8 then gives (getD allNames (21 + p .0) []) else refused 17 []) ≡ naming Kinds.Number p
+pub named-number : (p : Place) → (if ltb (p .0) 8 then gives (packed (getD allNames (21 + p .0) [])) else refused 17 []) ≡ naming Kinds.Number p
 unfolding naming allNames
 named-number p =
     listed numberNames allNames 21 8 numbers-length (λ i l.
@@ -49,7 +49,7 @@ named-number p =
     ∙ getD-append-add booleanNames (numberNames ++ stringNames) i []
     ∙ List·getD-append numberNames stringNames [] i (rw numbers-length l)) p
 
-pub named-string : (p : Place) → (if ltb (p .0) 138 then gives (getD allNames (29 + p .0) []) else refused 17 []) ≡ naming Kinds.String p
+pub named-string : (p : Place) → (if ltb (p .0) 138 then gives (packed (getD allNames (29 + p .0) [])) else refused 17 []) ≡ naming Kinds.String p
 unfolding naming allNames
 named-string p =
     listed stringNames allNames 29 138 strings-length (λ i l.

@@ -1,6 +1,6 @@
 -- Names by kind and place, and as the code's table has them.
 -- Assumes nothing.
-use mathlib.Core.Path.{_≡_, refl, sym, ap, _∙_}
+use mathlib.Core.Path.{_≡_, refl}
 use mathlib.Core.List.{List, [], _∷_, map}
 use Prim.Native.Nat.{ℕ}
 use lib.Dec.{eqb}
@@ -15,10 +15,6 @@ use Rattle.names.specs.declared.Name.{Name}
 use Rattle.names.specs.declared.Name.the-variants as N
 use Rattle.names.specs.Names.{ascii, parted, named, booleanNames, numberNames, stringNames, namesOf, allNames}
 
--- the name at a place of a kind's list; 17 beyond the list
-unfoldable pub naming : Kind → Place → Answer (List ℕ)
-naming k p = if knows (length (namesOf k)) p then gives (getD (namesOf k) (p .0) []) else refused 17 []
-
 -- a name of at most eight bytes as a number, low byte first
 unfoldable pub packed : List ℕ → ℕ
 packed n = word 8 n 0
@@ -31,8 +27,12 @@ beforeNul (b ∷ s) = if eqb b 0 then [] else b ∷ beforeNul s
 unfoldable pub unpacked : ℕ → List ℕ
 unpacked w = beforeNul (bytes 8 w)
 
-abbrev pub saysName : Name → Answer (List ℕ)
-saysName (N.Packed w) = gives (unpacked w)
+-- the name at a place of a kind's list, as a number; 17 beyond the list
+unfoldable pub naming : Kind → Place → Answer ℕ
+naming k p = if knows (length (namesOf k)) p then gives (packed (getD (namesOf k) (p .0) [])) else refused 17 []
+
+abbrev pub saysName : Name → Answer ℕ
+saysName (N.Packed w) = gives w
 saysName N.Beyond = refused 17 []
 
 -- all names as the code's table has them
@@ -46,7 +46,7 @@ pub unpacked-all : map unpacked packedNames ≡ allNames
 unfolding packedNames packed unpacked beforeNul word bytes allNames booleanNames numberNames stringNames named parted ascii
 unpacked-all = refl
 
--- and so does the name at each place
-pub unpacked-at : (k : ℕ) → unpacked (getD packedNames k 0) ≡ getD allNames k []
-unfolding unpacked beforeNul bytes
-unpacked-at k = sym (List·getD-map unpacked packedNames k 0) ∙ ap (λ (l : List (List ℕ)). getD l k []) unpacked-all
+-- the number at each place is the name's
+pub packed-at : (k : ℕ) → getD packedNames k 0 ≡ packed (getD allNames k [])
+unfolding packedNames packed word
+packed-at k = List·getD-map packed allNames k []

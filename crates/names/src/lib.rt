@@ -8,7 +8,7 @@ ghost use lib.ListN.{getD};
 ghost use Rattle.base.specs.If.{if_then_else_};
 ghost use Rattle.entry.specs.Answer.{refused, gives};
 ghost use Rattle.names.specs.Names.{allNames};
-ghost use Rattle.names.specs.Naming.{packedNames, naming, saysName};
+ghost use Rattle.names.specs.Naming.{packed, packedNames, naming, saysName};
 use caps::Kind;
 use caps::Place;
 
@@ -211,7 +211,7 @@ fn packed_name(k: usize) -> u64
 // The name at a place of the list of count names that starts at first among all names.
 fn name_in(first: usize, count: usize, place: Place) -> Name
     requires { ⌜ first + count ≤ 167 ⌝ }
-    ensures { λ r. ⌜ saysName r ≡ (if ltb (place .0) count then gives (getD allNames (first + place .0) []) else refused 17 []) ⌝ }
+    ensures { λ r. ⌜ saysName r ≡ (if ltb (place .0) count then gives (packed (getD allNames (first + place .0) [])) else refused 17 []) ⌝ }
 {
     if count <= place.0 {
         return Name::Beyond;

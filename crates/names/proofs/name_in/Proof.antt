@@ -1,7 +1,7 @@
--- `names::name_in` meets its contract: a packed name is the name at its place.
+-- `names::name_in` meets its contract: the table's number at a place is the name's.
 use Prim.Native.Nat.{_+_}
 use borrow.Author.Tests.{lt-ltb, le-ltb}
-use Rattle.names.specs.Naming.{unpacked-at}
+use Rattle.names.specs.Naming.{packed-at}
 use borrow.Author.Needs.{needs}
 use Rattle.names.proofs.name_in.Statement.{statement}
 use Rattle.names.proofs.name_in.Tie as tie
@@ -16,7 +16,7 @@ packed-name-requires : tie.Need-packed-name-requires
 packed-name-requires c κs = search needs
 
 returns-2 : tie.Need-returns-2
-returns-2 c = rw (lt-ltb _ _ (c .before .before .if1 .left), c .packed-name .ensures, unpacked-at (c .before .before .before .before .args .first + c .before .before .before .before .args .place .0))
+returns-2 c = rw (lt-ltb _ _ (c .before .before .if1 .left), c .packed-name .ensures, packed-at (c .before .before .before .before .args .first + c .before .before .before .before .args .place .0))
 
 pub name-in-spec : {M : Type 1} → statement M
 name-in-spec = tie.close (tie.spec returns add-packed-name packed-name-requires returns-2)

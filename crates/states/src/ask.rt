@@ -1,0 +1,56 @@
+// Opens a file once and answers several questions about it.
+ghost use mathlib.Core.Path.{_≡_};
+ghost use mathlib.Core.List.{map};
+ghost use Rattle.entry.specs.Asking.{opening};
+ghost use Rattle.entry.specs.Says.{saysOpened};
+ghost use Rattle.states.specs.Ask.{replying, saysReply};
+use caps::Edition;
+use caps::Place;
+use entry::BooleanState;
+use entry::NumberState;
+use entry::Opened;
+use entry::StringState;
+
+// A question about a place.
+pub enum Question {
+    Nothing,
+    Boolean(Place),
+    Number(Place),
+    String(Place),
+}
+
+// The reply to a question.
+pub enum Reply {
+    Nothing,
+    Boolean(BooleanState),
+    Number(NumberState),
+    String(StringState),
+}
+
+// The reply to one question, by what opening answered.
+pub fn reply_by(file: &[u8], edition: Edition, o: Opened, question: Question) -> Reply
+    requires { ⌜ saysOpened o ≡ opening edition (now file) ⌝ }
+    ensures { λ r. ⌜ saysReply r ≡ replying edition (now (file .entry)) question ⌝ }
+{
+    match question {
+        Question::Nothing => Reply::Nothing,
+        Question::Boolean(p) => Reply::Boolean(crate::opened::boolean_by(file, edition, o, p)),
+        Question::Number(p) => Reply::Number(crate::opened::number_by(file, edition, o, p)),
+        Question::String(p) => Reply::String(crate::opened::string_by(file, edition, o, p)),
+    }
+}
+
+// Opens the file once and answers eight questions, each as the call for its kind does.
+pub fn ask(file: &[u8], edition: Edition, questions: [Question; 8]) -> [Reply; 8]
+    ensures { λ r. ⌜ map saysReply r ≡ map (replying edition (now (file .entry))) questions ⌝ }
+{
+    let o = read::open(file, edition);
+    let mut replies = [Reply::Nothing; 8];
+    let mut i = 0;
+    while i < 8 {
+        let q = questions[i];
+        replies[i] = reply_by(file, edition, o, q);
+        i += 1;
+    }
+    replies
+}

@@ -1,0 +1,177 @@
+-- The cases of the C calls' numbers, as their code meets them.
+-- Assumes nothing.
+use mathlib.Core.Path.{_≡_, refl, sym, ap, _∙_}
+use mathlib.Core.Bool.{Bool, true, false, not}
+use mathlib.Core.List.{List, [], _∷_}
+use Prim.Native.Nat.{ℕ, _+_, _*_, _^_, _≤_, _<_}
+use native.Mathlib.Omega.{arith}
+use lib.Dec.{leb}
+use lib.ListN.{length, getD}
+use borrow.Author.Tests.{eq-eqb, ne-eqb, leb-true}
+use Rattle.base.specs.If.{if_then_else_}
+use Rattle.base.specs.Scan.{every}
+use Rattle.base.specs.Tabulate.{tabulate}
+use Rattle.caps.specs.declared.Edition.{Edition}
+use Rattle.caps.specs.declared.Kind.the-variants as Kinds
+use Rattle.caps.specs.declared.Place.{Place}
+use Rattle.caps.specs.Edition.{place}
+use Rattle.entry.specs.declared.Names.{Names}
+use Rattle.entry.specs.declared.Names.the-variants as M
+use Rattle.entry.specs.declared.StringState.{StringState}
+use Rattle.entry.specs.declared.StringState.the-variants as S
+use Rattle.entry.specs.declared.Written.{Written}
+use Rattle.entry.specs.declared.Written.the-variants as W
+use Rattle.entry.specs.Limits.{fileMost}
+use Rattle.entry.specs.State.{present}
+use Rattle.entry.specs.Answer.{Answer, refused, gives, mapAnswer, isGiven}
+use Rattle.entry.specs.Asking.{Opening, opening, asking, askingNames, askingBoolean, askingNumber, askingString}
+use Rattle.entry.specs.Writing.{Handed, encode, entryOf, enoughStates, namesFit, isLent, statesFit, writing}
+use Rattle.entry.specs.Says.{saysNames, saysString, saysWritten}
+use Rattle.entry_laws.specs.Demands.{written-only-if}
+use Rattle.names.specs.Naming.{naming}
+use Rattle.states.proofs.Laws.{asking-given, opened-accepted, names-inside, string-inside}
+use Rattle.terminfo_c.specs.Numbers.{numbered, none, arrayAfter, openingArray, booleanCode, numberCode, stringCode, askedCode, asking8, namingBy, NamesWithin, StringWithin, WrittenWithin}
+
+-- ---- parts lie in a file
+
+file-most : (e : Edition) (f : List ℕ) → isGiven (opening e f) ≡ true → length f ≤ fileMost
+file-most e f h = opened-accepted e f h .most
+
+pub names-within : (e : Edition) (f : List ℕ) (r : Names) → saysNames r ≡ askingNames e f → NamesWithin r
+names-within e f (M.At p) h =
+    let l : p .start + p .length ≤ length f = names-inside e f p h in
+    let m : length f ≤ fileMost = file-most e f (asking-given _ _ _ _ p h .0) in
+    omega arith
+names-within e f M.Refused h = tt
+
+pub string-within : (e : Edition) (f : List ℕ) (p : Place) (r : StringState) → saysString r ≡ askingString e f p → StringWithin r
+string-within e f p S.Absent h = tt
+string-within e f p S.Cancelled h = tt
+string-within e f p (S.Present q) h =
+    let l : q .start + q .length ≤ length f = string-inside e f p q h in
+    let m : length f ≤ fileMost = file-most e f (asking-given _ _ _ _ (present q) h .0) in
+    omega arith
+string-within e f p S.Refused h = tt
+
+-- ---- a place asked for by the number of its kind
+
+module _ (e : Edition) (f : List ℕ) (k i : ℕ) where
+  pub asked-boolean : k ≡ 0 → numbered booleanCode (askingBoolean e f (place i)) ≡ askedCode e f k i
+  unfolding askedCode
+  asked-boolean a = rw (eq-eqb k 0 a)
+
+  module _ (z : k ≡ 0 → ⊥) where
+    pub asked-number : k ≡ 1 → numbered numberCode (askingNumber e f (place i)) ≡ askedCode e f k i
+    unfolding askedCode
+    asked-number a = rw (ne-eqb k 0 z, eq-eqb k 1 a)
+
+    module _ (y : k ≡ 1 → ⊥) where
+      pub asked-string : k ≡ 2 → numbered stringCode (askingString e f (place i)) ≡ askedCode e f k i
+      unfolding askedCode
+      asked-string a = rw (ne-eqb k 0 z, ne-eqb k 1 y, eq-eqb k 2 a)
+
+      pub asked-none : (k ≡ 2 → ⊥) → 17 * 2 ^ 56 ≡ askedCode e f k i
+      unfolding askedCode
+      asked-none x = rw (ne-eqb k 0 z, ne-eqb k 1 y, ne-eqb k 2 x)
+
+module _ (k i : ℕ) where
+  pub named-boolean : k ≡ 0 → numbered (λ w. w) (naming Kinds.Boolean (place i)) ≡ numbered (λ w. w) (namingBy k i)
+  unfolding namingBy
+  named-boolean a = rw (eq-eqb k 0 a)
+
+  module _ (z : k ≡ 0 → ⊥) where
+    pub named-number : k ≡ 1 → numbered (λ w. w) (naming Kinds.Number (place i)) ≡ numbered (λ w. w) (namingBy k i)
+    unfolding namingBy
+    named-number a = rw (ne-eqb k 0 z, eq-eqb k 1 a)
+
+    module _ (y : k ≡ 1 → ⊥) where
+      pub named-string : k ≡ 2 → numbered (λ w. w) (naming Kinds.String (place i)) ≡ numbered (λ w. w) (namingBy k i)
+      unfolding namingBy
+      named-string a = rw (ne-eqb k 0 z, ne-eqb k 1 y, eq-eqb k 2 a)
+
+      pub named-none : (k ≡ 2 → ⊥) → 17 * 2 ^ 56 ≡ numbered (λ w. w) (namingBy k i)
+      unfolding namingBy numbered
+      named-none x = rw (ne-eqb k 0 z, ne-eqb k 1 y, ne-eqb k 2 x)
+
+-- ---- eight places at once
+
+module _ (e : Edition) (f kinds places before : List ℕ) where
+  abbrev pub eight : List ℕ
+  eight = tabulate (λ i. askedCode e f (getD kinds i 0) (getD places i 0)) 8
+
+  pub ask-done : (o : Opening) → gives o ≡ opening e f → (0 ≡ numbered none (asking8 e f kinds places)) × (eight ≡ arrayAfter before (asking8 e f kinds places))
+  unfolding asking8 numbered
+  ask-done o g = (rw (← g), rw (← g))
+
+  pub ask-refused : (n : ℕ) (v : List ℕ) → refused n v ≡ opening e f
+      → (17 * 2 ^ 56 ≡ numbered none (asking8 e f kinds places)) × (before ≡ arrayAfter before (asking8 e f kinds places))
+  unfolding asking8 numbered
+  ask-refused n v g = (rw (← g), rw (← g))
+
+-- ---- opening
+
+module _ (a : Answer Opening) (before : List ℕ) where
+  pub open-done : (o : Opening) → gives o ≡ a → (0 ≡ numbered none a) × (openingArray o ≡ arrayAfter before (mapAnswer openingArray a))
+  unfolding numbered
+  open-done o g = (rw (← g), rw (← g))
+
+  pub open-refused : (n : ℕ) → refused n [] ≡ a → (n * 2 ^ 56 ≡ numbered none a) × (before ≡ arrayAfter before (mapAnswer openingArray a))
+  unfolding numbered
+  open-refused n g = (rw (← g) (omega arith), rw (← g))
+
+-- ---- writing
+
+map-refused : (n : ℕ) (v : List ℕ) (a : Answer (List ℕ)) → refused n v ≡ mapAnswer length a → refused n v ≡ a
+map-refused n v (refused m w) e = cc
+map-refused n v (gives f) e = absurd (let z : _≡_ {A = ℕ} 0 1 = cc in (let y : ⊥ = omega arith in y))
+
+map-gives : (n : ℕ) (a : Answer (List ℕ)) → gives n ≡ mapAnswer length a → (f : List ℕ) × ((n ≡ length f) × (a ≡ gives f))
+map-gives n (refused m w) e = absurd (let z : _≡_ {A = ℕ} 0 1 = cc in (let y : ⊥ = omega arith in y))
+map-gives n (gives f) e = (f, (cc, refl))
+
+-- another refusal was not given
+not-given : {A : Type 0} (t : Bool) (k n : ℕ) (v : List ℕ) (a : Answer A) → (n ≡ k → ⊥) → refused n v ≡ (if not t then refused k [] else a) → (t ≡ true) × (refused n v ≡ a)
+not-given true k n v a h e = (refl, e)
+not-given false k n v a h e = absurd (h (cc))
+
+-- the length that 8 gives is at most a file's
+room-most : (e : Edition) (h : Handed) (room n : ℕ) → refused 8 (n ∷ []) ≡ writing e h room → n ≤ fileMost
+unfolding writing
+room-most e h room n g =
+    let v : List ℕ = n ∷ [] in
+    let size : ℕ = length (encode (entryOf e h)) in
+    let a₆ : Answer (List ℕ) = if not (leb size room) then refused 8 (size ∷ []) else gives (encode (entryOf e h)) in
+    let a₅ : Answer (List ℕ) = if not (leb size fileMost) then refused 9 [] else a₆ in
+    let a₄ : Answer (List ℕ) = if not (statesFit e h) then refused 13 [] else a₅ in
+    let a₃ : Answer (List ℕ) = if not (every (isLent h) (e .strings)) then refused 7 [] else a₄ in
+    let a₂ : Answer (List ℕ) = if not (namesFit (h .names)) then refused 4 [] else a₃ in
+    let p₁ = not-given (enoughStates e h) 3 8 v a₂ (λ q. omega arith) g in
+    let p₂ = not-given (namesFit (h .names)) 4 8 v a₃ (λ q. omega arith) (p₁ .1) in
+    let p₃ = not-given (every (isLent h) (e .strings)) 7 8 v a₄ (λ q. omega arith) (p₂ .1) in
+    let p₄ = not-given (statesFit e h) 13 8 v a₅ (λ q. omega arith) (p₃ .1) in
+    let p₅ = not-given (leb size fileMost) 9 8 v a₆ (λ q. omega arith) (p₄ .1) in
+    last size (leb size room) (leb-true size fileMost (p₅ .0)) (p₅ .1)
+  where
+    last : (size : ℕ) (t : Bool) → size ≤ fileMost → refused 8 (n ∷ []) ≡ (if not t then refused 8 (size ∷ []) else gives (encode (entryOf e h))) → n ≤ fileMost
+    last size true l q = absurd (let z : _≡_ {A = ℕ} 0 1 = cc in (let y : ⊥ = omega arith in y))
+    last size false l q = let z : n ≡ size = cc in omega arith
+
+pub written-within : (e : Edition) (h : Handed) (room : ℕ) (w : Written) → saysWritten w ≡ mapAnswer length (writing e h room) → WrittenWithin w
+written-within e h room (W.File n) g =
+    let p = map-gives n (writing e h room) g in
+    let q = written-only-if e h room (p .0) (p .1 .1) in
+    let l : n ≡ length (encode (entryOf e h)) = p .1 .0 ∙ ap length (q .1 .1) in
+    let m = q .0 .size in
+    omega arith
+written-within e h room W.Counts g = tt
+written-within e h room W.Names g = tt
+written-within e h room W.Lent g = tt
+written-within e h room W.Limit g = tt
+written-within e h room W.Size g = tt
+written-within e h room (W.Room n) g = room-most e h room n (map-refused 8 (n ∷ []) (writing e h room) g)
+
+-- a length is the same number before and after the file is counted
+pub numbered-length : (a : Answer (List ℕ)) → numbered (λ n. n) (mapAnswer length a) ≡ numbered length a
+unfolding numbered
+numbered-length (refused n v) = refl
+numbered-length (gives f) = refl

@@ -1,0 +1,161 @@
+// Answers as 64-bit numbers.
+ghost use mathlib.Core.Path.{_≡_};
+ghost use Prim.Native.Nat.{_≤_};
+ghost use lib.ListN.{getD};
+ghost use Rattle.base.specs.Tabulate.{tabulate};
+ghost use Rattle.entry.specs.Asking.{opening};
+ghost use Rattle.entry.specs.Says.{saysOpened, saysNames, saysBoolean, saysNumber, saysString, saysWritten, fileNumber};
+ghost use Rattle.names.specs.Naming.{saysName};
+ghost use Rattle.terminfo_c.specs.Numbers.{numbered, none, booleanCode, numberCode, stringCode, partCode, openingArray, askedCode, NamesWithin, StringWithin, WrittenWithin};
+
+use caps::Edition;
+use caps::Place;
+use entry::Beyond;
+use entry::BooleanState;
+use entry::FileRefusal;
+use entry::Names;
+use entry::NumberState;
+use entry::Opened;
+use entry::Part;
+use entry::StringState;
+use entry::Tables;
+use entry::Written;
+use names::Name;
+
+// A refusal's number stands in the top byte.
+pub const TOP: u64 = 72057594037927936;
+// A state's kind stands in the byte below it.
+const KIND: u64 = 281474976710656;
+// A part's start stands above its length.
+const START: u64 = 16777216;
+
+pub fn file_number(why: FileRefusal) -> u64
+    ensures { λ r. ⌜ (r ≡ fileNumber why) × (r ≤ 7) ⌝ }
+{
+    match why {
+        FileRefusal::Length => 1,
+        FileRefusal::Magic => 2,
+        FileRefusal::Counts => 3,
+        FileRefusal::Names => 4,
+        FileRefusal::Boolean => 5,
+        FileRefusal::Number => 6,
+        FileRefusal::Slot => 7,
+    }
+}
+
+// What opening gives, as an array.
+pub fn opening_array(t: Tables, b: Beyond) -> [u64; 10]
+    ensures { λ r. ⌜ r ≡ openingArray (record { tables = t; beyond = b }) ⌝ }
+{
+    [
+        t.booleans as u64,
+        t.numbers as u64,
+        t.strings as u64,
+        t.booleans_at as u64,
+        t.numbers_at as u64,
+        t.strings_at as u64,
+        t.table_at as u64,
+        b.booleans as u64,
+        b.numbers as u64,
+        b.strings as u64,
+    ]
+}
+
+pub fn names_number(n: Names) -> u64
+    requires { ⌜ NamesWithin n ⌝ }
+    ensures { λ r. ⌜ r ≡ numbered partCode (saysNames n) ⌝ }
+{
+    match n {
+        Names::At(p) => (p.start as u64) * START + p.length as u64,
+        Names::Refused => 17 * TOP,
+    }
+}
+
+pub fn boolean_number(s: BooleanState) -> u64
+    ensures { λ r. ⌜ r ≡ numbered booleanCode (saysBoolean s) ⌝ }
+{
+    match s {
+        BooleanState::Absent => 0,
+        BooleanState::Present => KIND,
+        BooleanState::Cancelled => 2 * KIND,
+        BooleanState::Refused => 17 * TOP,
+    }
+}
+
+pub fn number_number(s: NumberState) -> u64
+    ensures { λ r. ⌜ r ≡ numbered numberCode (saysNumber s) ⌝ }
+{
+    match s {
+        NumberState::Absent => 0,
+        NumberState::Present(n) => KIND + n as u64,
+        NumberState::Cancelled => 2 * KIND,
+        NumberState::Refused => 17 * TOP,
+    }
+}
+
+pub fn string_number(s: StringState) -> u64
+    requires { ⌜ StringWithin s ⌝ }
+    ensures { λ r. ⌜ r ≡ numbered stringCode (saysString s) ⌝ }
+{
+    match s {
+        StringState::Absent => 0,
+        StringState::Present(p) => KIND + (p.start as u64) * START + p.length as u64,
+        StringState::Cancelled => 2 * KIND,
+        StringState::Refused => 17 * TOP,
+    }
+}
+
+pub fn written_number(w: Written) -> u64
+    requires { ⌜ WrittenWithin w ⌝ }
+    ensures { λ r. ⌜ r ≡ numbered (λ n. n) (saysWritten w) ⌝ }
+{
+    match w {
+        Written::File(n) => n as u64,
+        Written::Counts => 3 * TOP,
+        Written::Names => 4 * TOP,
+        Written::Lent => 7 * TOP,
+        Written::Limit => 13 * TOP,
+        Written::Size => 9 * TOP,
+        Written::Room(n) => 8 * TOP + n as u64,
+    }
+}
+
+pub fn name_number(n: Name) -> u64
+    ensures { λ r. ⌜ r ≡ numbered (λ w. w) (saysName n) ⌝ }
+{
+    match n {
+        Name::Packed(w) => w,
+        Name::Beyond => 17 * TOP,
+    }
+}
+
+// The state at a place of the list of a kind's number, by what opening answered.
+fn asked_number(file: &[u8], e: Edition, o: Opened, kind: u8, place: usize) -> u64
+    requires { ⌜ saysOpened o ≡ opening e (now file) ⌝ }
+    ensures { λ r. ⌜ r ≡ askedCode e (now (file .entry)) kind place ⌝ }
+{
+    if kind == 0 {
+        return boolean_number(states::opened::boolean_by(file, e, o, Place(place)));
+    }
+    if kind == 1 {
+        return number_number(states::opened::number_by(file, e, o, Place(place)));
+    }
+    if kind == 2 {
+        return string_number(states::opened::string_by(file, e, o, Place(place)));
+    }
+    17 * TOP
+}
+
+// The states at eight places.
+pub fn asked_numbers(file: &[u8], e: Edition, o: Opened, kinds: &[u8; 8], places: &[usize; 8]) -> [u64; 8]
+    requires { ⌜ saysOpened o ≡ opening e (now file) ⌝ }
+    ensures { λ r. ⌜ r ≡ tabulate (λ i. askedCode e (now (file .entry)) (getD (now (kinds .entry)) i 0) (getD (now (places .entry)) i 0)) 8 ⌝ }
+{
+    let mut answers = [0u64; 8];
+    let mut i = 0;
+    while i < 8 {
+        answers[i] = asked_number(file, e, o, kinds[i], places[i]);
+        i += 1;
+    }
+    answers
+}

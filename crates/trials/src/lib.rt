@@ -1,0 +1,1 @@
+// Document 01's trials as one proved table. No code: see specs/.

@@ -1,0 +1,68 @@
+-- `file::write_sure` meets its contract: the front and the string table are put one behind the other.
+-- Assumes nothing.
+use mathlib.Core.Path.{_≡_, ap, _∙_}
+use mathlib.Core.List.{_++_}
+use Prim.Native.Nat.{_≤_}
+use native.Mathlib.Omega.{arith}
+use denote.Ref.{now}
+use lib.ListN.{length}
+use Rattle.entry.specs.Limits.{fileMost}
+use Rattle.entry.specs.Layout.{tableAt, sizeOf}
+use Rattle.entry.specs.Writing.{entryOf, stringHanded}
+use Rattle.put.specs.TableLaws.{lent-described}
+use Rattle.writer.specs.File.{sizesHanded, head, slots}
+use Rattle.writer.specs.FileLaws.{file-put, front-fits}
+use Rattle.writer.specs.Handed.{handed}
+use Rattle.writer.proofs.file.write_sure.Statement.{statement}
+use Rattle.writer.proofs.file.write_sure.Tie as tie
+
+sizes-requires : tie.Need-sizes-requires
+sizes-requires c κs =
+    let f = c .before .before .before .before .before .before .before .before .before .before .pre in
+    let k = f .given in
+    let m = f .most in
+    (k .stringKinds, (k .stringLengths, omega arith))
+
+put-front-requires : tie.Need-put-front-requires
+put-front-requires c κs =
+    let a = c .before .before .before .before .before .before .before .before .before .before .before .before .args in
+    front-fits (now (a .b)) (a .e) (handed (now (a .names)) (now (a .boolean-kinds)) (now (a .number-kinds)) (now (a .number-values)) (now (a .string-kinds)) (now (a .string-starts)) (now (a .string-lengths)) (now (a .first) ++ now (a .second))) (now (a .first)) (now (a .second)) (c .before .sizes .result) (c .before .before .before .before .before .before .before .before .before .before .before .before .pre) (c .before .sizes .ensures)
+
+table-at-requires : tie.Need-table-at-requires
+table-at-requires c κs =
+    let a = c .before .before .before .before .before .before .before .before .before .before .before .before .before .before .before .before .args in
+    let m : sizeOf (sizesHanded (a .e) (handed (now (a .names)) (now (a .boolean-kinds)) (now (a .number-kinds)) (now (a .number-values)) (now (a .string-kinds)) (now (a .string-starts)) (now (a .string-lengths)) (now (a .first) ++ now (a .second)))) ≤ fileMost = c .before .before .before .before .before .before .before .before .before .before .before .before .before .before .before .before .pre .most in
+    let q : sizeOf (c .before .before .before .before .before .sizes .result) ≡ sizeOf (sizesHanded (a .e) (handed (now (a .names)) (now (a .boolean-kinds)) (now (a .number-kinds)) (now (a .number-values)) (now (a .string-kinds)) (now (a .string-starts)) (now (a .string-lengths)) (now (a .first) ++ now (a .second)))) = ap sizeOf (c .before .before .before .before .before .sizes .ensures) in
+    omega arith
+
+put-table-requires : tie.Need-put-table-requires
+put-table-requires c κs =
+    let a = c .before .before .before .before .before .before .before .before .before .before .before .before .before .before .before .before .before .args in
+    let f = c .before .before .before .before .before .before .before .before .before .before .before .before .before .before .before .before .before .pre in
+    let g = f .given in
+    let r : sizeOf (sizesHanded (a .e) (handed (now (a .names)) (now (a .boolean-kinds)) (now (a .number-kinds)) (now (a .number-values)) (now (a .string-kinds)) (now (a .string-starts)) (now (a .string-lengths)) (now (a .first) ++ now (a .second)))) ≤ length (now (a .b)) = f .room in
+    let q : c .table-at .result ≡ tableAt (sizesHanded (a .e) (handed (now (a .names)) (now (a .boolean-kinds)) (now (a .number-kinds)) (now (a .number-values)) (now (a .string-kinds)) (now (a .string-starts)) (now (a .string-lengths)) (now (a .first) ++ now (a .second)))) = c .table-at .ensures ∙ ap tableAt (c .before .before .before .before .before .before .sizes .ensures) in
+    let k : length (c .before .before .before .before .put-front .last .0) ≡ length (now (a .b)) = c .before .before .before .before .put-front .kept .0 in
+    record { kindsGiven = g .stringKinds; startsGiven = g .stringStarts; lengthsGiven = g .stringLengths; lent = f .lent; fits = omega arith }
+
+same-length : tie.Need-same-length
+same-length c = c .before .before .put-table .kept .0 ∙ c .before .before .before .before .before .before .before .put-front .kept .0
+
+returns : tie.Need-returns
+unfolding entryOf head slots
+returns c =
+    let a = c .before .before .before .before .before .before .before .before .before .before .before .before .before .before .before .before .before .before .before .before .args in
+    let f = c .before .before .before .before .before .before .before .before .before .before .before .before .before .before .before .before .before .before .before .before .pre in
+    let d = lent-described (now (a .string-kinds)) (now (a .string-starts)) (now (a .string-lengths)) (now (a .first) ++ now (a .second)) (a .e .strings) (λ i h q. f .lent i h q .0) in
+    file-put (a .e) (handed (now (a .names)) (now (a .boolean-kinds)) (now (a .number-kinds)) (now (a .number-values)) (now (a .string-kinds)) (now (a .string-starts)) (now (a .string-lengths)) (now (a .first) ++ now (a .second))) (stringHanded (handed (now (a .names)) (now (a .boolean-kinds)) (now (a .number-kinds)) (now (a .number-values)) (now (a .string-kinds)) (now (a .string-starts)) (now (a .string-lengths)) (now (a .first) ++ now (a .second)))) d (now (a .b)) (c .before .before .before .before .before .before .before .put-front .last .0) (c .before .before .put-table .last .0) (c .before .before .before .before .before .before .before .before .before .sizes .ensures) (f .room) (c .before .before .before .table-at .ensures) (c .before .before .before .before .before .before .before .put-front .ensures) (c .before .before .put-table .ensures)
+
+pub write-sure-spec : {M : Type 1} → statement M
+write-sure-spec =
+    tie.close
+    (tie.spec
+    sizes-requires
+    put-front-requires
+    table-at-requires
+    put-table-requires
+    same-length
+    returns)

@@ -1,0 +1,5 @@
+pub mod Handed
+pub mod File
+pub mod FileLaws
+pub mod Answers
+pub mod AnswerLaws

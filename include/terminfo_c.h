@@ -1,0 +1,180 @@
+/* The terminfo library for C and C++: compiled entries are opened, asked and written.
+ *
+ * An edition is three counts, of booleans (at most 64), numbers (at most 64) and strings (at most
+ * 512); it knows the places below its counts in the three ordered lists of capabilities. The first
+ * edition is 21, 8, 138.
+ *
+ * Every call returns 64 bits. Bits 56 to 63 hold the number of the refusal, 0 for success; the
+ * bits below hold what the call or the refusal gives, and are 0 where it gives nothing.
+ *
+ *     1   the file is shorter than 12 bytes, longer than 4,096 or not as long as its header says
+ *     2   the file does not begin with the magic number 282
+ *     3   a header short is above 32,767, the names size is outside 2 to 128, the edition is too
+ *         large, or the writer is given fewer states than the edition counts
+ *     4   the names hold a NUL, a file's names lack the closing one, or the writer's names are not
+ *         1 to 127 bytes long
+ *     5   a boolean byte is none of 0, 1 and 254, or the pad byte is not 0
+ *     6   a number slot is above 32,767 and neither 65,535 nor 65,534
+ *     7   a string slot is no offset of a string in the table and neither 65,535 nor 65,534, or a
+ *         string given to the writer is not in the bytes that were lent
+ *     8   the buffer is shorter than the file to be written; bits 0 to 55 give the file's length
+ *     9   the file to be written is longer than 4,096 bytes
+ *     13  the writer is given a state of no kind, a number above 32,767, or a string that is longer
+ *         than 1,000 bytes or holds a NUL
+ *     17  the place is beyond the edition or the list, there is no such kind of capability, or
+ *         opening refuses the file
+ *
+ * A refused call changes nothing that was lent to it.
+ *
+ * The caller lends all memory and the calls keep none of it. Every pointer is aligned for its type
+ * and not null, also where its length is 0; its length counts elements, all of which can be read;
+ * what a call may write overlaps no other argument. There is no other condition on any argument.
+ */
+#ifndef TERMINFO_C_H
+#define TERMINFO_C_H
+
+#include <stddef.h>
+#include <stdint.h>
+
+#ifdef __cplusplus
+extern "C" {
+#endif
+
+/* The kinds of capability. */
+enum { TERMINFO_BOOLEAN = 0, TERMINFO_NUMBER = 1, TERMINFO_STRING = 2 };
+
+/* The kinds of state that a capability has in an entry. */
+enum { TERMINFO_ABSENT = 0, TERMINFO_PRESENT = 1, TERMINFO_CANCELLED = 2 };
+
+/* The number of the refusal in an answer; 0 for success. */
+static inline unsigned terminfo_refusal(uint64_t answer) { return (unsigned)(answer >> 56); }
+
+/* The kind of state in the answer of terminfo_boolean, terminfo_number or terminfo_string. */
+static inline unsigned terminfo_kind(uint64_t answer) { return (unsigned)(answer >> 48) & 255u; }
+
+/* The number's value in the answer of terminfo_number, or the file's length in that of
+ * terminfo_write (success, or refusal 8). */
+static inline uint64_t terminfo_value(uint64_t answer) { return answer & 0xFFFFFFFFFFFFu; }
+
+/* Where the part of the file starts that terminfo_names or terminfo_string gives. */
+static inline size_t terminfo_start(uint64_t answer) { return (size_t)(answer >> 24) & 0xFFFFFFu; }
+
+/* How many bytes the part of the file has that terminfo_names or terminfo_string gives. */
+static inline size_t terminfo_length(uint64_t answer) { return (size_t)answer & 0xFFFFFFu; }
+
+/* Opens a file: checks all of it and tells where its tables are.
+ *
+ * file, file_length           the bytes of the file.
+ * booleans, numbers, strings  the edition of the reader.
+ * tables                      on success, filled in this order:
+ *     tables[0], [1], [2]       how many boolean, number and string slots the file has;
+ *     tables[3], [4], [5], [6]  where in the file the booleans, the numbers, the string slots and
+ *                               the string table start;
+ *     tables[7], [8], [9]       how many boolean, number and string slots lie beyond the edition.
+ *
+ * Success gives 0. Refusals, the first that applies: 3 (edition), 1 (below 12 bytes or above
+ * 4,096), 2, 3 (header), 1 (size), 4, 5, 6, 7. */
+uint64_t terminfo_open(const uint8_t *file, size_t file_length, size_t booleans, size_t numbers,
+                       size_t strings, uint64_t tables[10]);
+
+/* Finds the names in a file.
+ *
+ * file, file_length           the bytes of the file.
+ * booleans, numbers, strings  the edition of the reader.
+ *
+ * Success gives the start of the names times 2^24 plus their length without the closing NUL
+ * (terminfo_start, terminfo_length). Refusal 17: terminfo_open refuses the file. */
+uint64_t terminfo_names(const uint8_t *file, size_t file_length, size_t booleans, size_t numbers,
+                        size_t strings);
+
+/* Asks for the state of one boolean.
+ *
+ * file, file_length           the bytes of the file.
+ * booleans, numbers, strings  the edition of the reader.
+ * place                       the place in the list of booleans, counted from 0.
+ *
+ * Success gives the kind of the state in bits 48 to 55 (terminfo_kind); a place that the edition
+ * knows and the file does not have is absent. Refusal 17: the place is beyond the edition, or
+ * terminfo_open refuses the file. */
+uint64_t terminfo_boolean(const uint8_t *file, size_t file_length, size_t booleans, size_t numbers,
+                          size_t strings, size_t place);
+
+/* Asks for the state of one number.
+ *
+ * The arguments are those of terminfo_boolean, with a place in the list of numbers.
+ *
+ * Success gives the kind of the state in bits 48 to 55 (terminfo_kind) and, where it is present,
+ * the number's value, 0 to 32,767, in the bits below (terminfo_value). Refusal 17: as for
+ * terminfo_boolean. */
+uint64_t terminfo_number(const uint8_t *file, size_t file_length, size_t booleans, size_t numbers,
+                         size_t strings, size_t place);
+
+/* Asks for the state of one string.
+ *
+ * The arguments are those of terminfo_boolean, with a place in the list of strings.
+ *
+ * Success gives the kind of the state in bits 48 to 55 (terminfo_kind) and, where it is present, in
+ * the bits below the start of the string in the file times 2^24 plus its length without the NUL
+ * (terminfo_start, terminfo_length). Refusal 17: as for terminfo_boolean. */
+uint64_t terminfo_string(const uint8_t *file, size_t file_length, size_t booleans, size_t numbers,
+                         size_t strings, size_t place);
+
+/* Asks for the states of eight capabilities and opens the file only once.
+ *
+ * file, file_length           the bytes of the file.
+ * booleans, numbers, strings  the edition of the reader.
+ * kinds                       the kind of each capability: 0 boolean, 1 number, 2 string.
+ * places                      the place of each capability in the list of its kind.
+ * answers                     on success, answers[i] is what terminfo_boolean, terminfo_number or
+ *                             terminfo_string returns for places[i], its refusal 17 included; for
+ *                             any other kinds[i] it is refusal 17.
+ *
+ * Success gives 0. Refusal 17: terminfo_open refuses the file. */
+uint64_t terminfo_ask(const uint8_t *file, size_t file_length, size_t booleans, size_t numbers,
+                      size_t strings, const uint8_t kinds[8], const size_t places[8],
+                      uint64_t answers[8]);
+
+/* Writes a file that has exactly the edition's slots, from the buffer's first byte on.
+ *
+ * booleans, numbers, strings  the edition of the file.
+ * names                       the names, 1 to 127 bytes, with bars between them and without NUL.
+ * boolean_kinds               the kind of state of each boolean: 0 absent, 1 present, 2 cancelled.
+ * number_kinds                the kind of state of each number.
+ * number_values               the value of each number, read where it is present: at most 32,767.
+ * string_kinds                the kind of state of each string.
+ * string_starts               where in lent each string starts, read where it is present.
+ * string_lengths              how many bytes each string has, read where it is present: at most
+ *                             1,000, none of them NUL.
+ * lent                        the bytes that hold the contents of the strings.
+ * buffer                      takes the file; its bytes past the file stay.
+ *
+ * Each list of states may be longer than the edition counts; what lies beyond is not read.
+ *
+ * Success gives the file's length (terminfo_value). Refusals, the first that applies: 3 (edition
+ * too large, or any of the six arrays of states shorter than the edition counts), 4, 7, 13, 9,
+ * 8 (gives the file's length: terminfo_value). */
+uint64_t terminfo_write(size_t booleans, size_t numbers, size_t strings,
+                        const uint8_t *names, size_t names_length,
+                        const uint8_t *boolean_kinds, size_t boolean_kinds_length,
+                        const uint8_t *number_kinds, size_t number_kinds_length,
+                        const uint32_t *number_values, size_t number_values_length,
+                        const uint8_t *string_kinds, size_t string_kinds_length,
+                        const size_t *string_starts, size_t string_starts_length,
+                        const size_t *string_lengths, size_t string_lengths_length,
+                        const uint8_t *lent, size_t lent_length,
+                        uint8_t *buffer, size_t buffer_length);
+
+/* Gives the name of a capability of the first edition.
+ *
+ * kind   the kind of capability: 0 boolean, 1 number, 2 string.
+ * place  the place in the list of that kind, counted from 0.
+ *
+ * Success gives the bytes of the name in bits 0 to 55, the first byte lowest, and zero bytes after
+ * the last one. Refusal 17: the place is beyond the list, or there is no such kind. */
+uint64_t terminfo_capability(uint8_t kind, size_t place);
+
+#ifdef __cplusplus
+}
+#endif
+
+#endif

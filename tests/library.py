@@ -1,0 +1,263 @@
+"""The library's C interface for the tests: its calls, the memory lent to them, and their answers.
+
+Every call has a function here that takes Python values, lends them to the library inside larger
+arrays, checks that the library changed nothing that it must leave, and returns the 64-bit answer.
+Beside each stands the answer that the model gives, in the same 64 bits.
+"""
+
+import ctypes
+import struct
+from array import array
+from pathlib import Path
+
+import model
+
+ROOT = Path(__file__).resolve().parent.parent
+SHARED_OBJECT = ROOT / "target" / "tests" / "libterminfo_c.so"
+
+# The calls and the answers within that of ask, with the refusals that each can give (0 is success).
+REFUSALS = {
+    "open": (0, 1, 2, 3, 4, 5, 6, 7),
+    "names": (0, 17),
+    "boolean": (0, 17),
+    "number": (0, 17),
+    "string": (0, 17),
+    "ask": (0, 17),
+    "answers of ask": (0, 17),
+    "write": (0, 3, 4, 7, 8, 9, 13),
+    "capability": (0, 17),
+}
+
+SIZE, POINTER = ctypes.c_size_t, ctypes.c_void_p
+FILE_AND_EDITION = [POINTER, SIZE, SIZE, SIZE, SIZE]
+ARGUMENTS = {
+    "open": FILE_AND_EDITION + [POINTER],
+    "names": FILE_AND_EDITION,
+    "boolean": FILE_AND_EDITION + [SIZE],
+    "number": FILE_AND_EDITION + [SIZE],
+    "string": FILE_AND_EDITION + [SIZE],
+    "ask": FILE_AND_EDITION + [POINTER, POINTER, POINTER],
+    "write": [SIZE, SIZE, SIZE] + 9 * [POINTER, SIZE],
+    "capability": [ctypes.c_uint8, SIZE],
+}
+
+
+def load():
+    shared_object = ctypes.CDLL(str(SHARED_OBJECT))
+    calls = {}
+    for name, arguments in ARGUMENTS.items():
+        calls[name] = getattr(shared_object, "terminfo_" + name)
+        calls[name].argtypes = arguments
+        calls[name].restype = ctypes.c_uint64
+    return calls
+
+
+CALLS = load()
+STATE_CALLS = (CALLS["boolean"], CALLS["number"], CALLS["string"])
+
+# What bytes hold that are not lent, or lent and not yet written; any 256 of them hold every value.
+PATTERN = bytes((37 * i + 11) % 256 for i in range(1 << 16))
+GUARD = 256
+
+
+class Lent:
+    """Elements lent to the library, with guard bytes directly before and after them."""
+
+    def __init__(self, type_code="B", capacity=1 << 13):
+        self.width = array(type_code).itemsize
+        self.type_code = type_code
+        self.bytes = bytearray(2 * GUARD + capacity * self.width)
+        self.address = ctypes.addressof(ctypes.c_char.from_buffer(self.bytes)) + GUARD
+        assert self.address % 8 == 0
+        self.put(b"")
+
+    def put(self, elements):
+        """Lends these elements."""
+        content = elements if self.width == 1 else array(self.type_code, elements).tobytes()
+        self.length = len(elements)
+        self.put_bytes(content)
+
+    def put_pattern(self, length):
+        """Lends this many elements whose bytes are not yet written."""
+        self.length = length
+        self.put_bytes(PATTERN[GUARD:GUARD + length * self.width])
+
+    def put_bytes(self, content):
+        self.end = GUARD + len(content)
+        self.whole = PATTERN[:GUARD] + content + PATTERN[-GUARD:]
+        self.bytes[:len(self.whole)] = self.whole
+
+    def written(self):
+        """The elements as they are now."""
+        content = bytes(self.bytes[GUARD:self.end])
+        return content if self.width == 1 else array(self.type_code, content).tolist()
+
+    def kept(self):
+        """Whether the elements and the guard bytes are as they were lent."""
+        return self.bytes.startswith(self.whole)
+
+    def kept_after(self, count):
+        """Whether all but the first `count` elements, guard bytes included, is as it was lent."""
+        rest = GUARD + count * self.width
+        return (self.bytes.startswith(self.whole[:GUARD])
+                and self.bytes.startswith(self.whole[rest:], rest))
+
+
+class Changed(AssertionError):
+    """The library changed bytes that it must leave."""
+
+
+def require(condition, what):
+    if not condition:
+        raise Changed(what)
+
+
+def pack(number=0, value=0, kind=0):
+    """The 64 bits of an answer: a refusal's number and value, or a kind of state and its value."""
+    return number << 56 | kind << 48 | value
+
+
+def pack_part(part):
+    """The value of a part of the file: start and length."""
+    start, length = part
+    return start << 24 | length
+
+
+NOT_THERE = pack(17)
+
+
+def pack_state(state):
+    """The 64 bits of a state that the model gives."""
+    kind, value = state
+    if value is None:
+        return pack(kind=kind)
+    return pack(kind=kind, value=pack_part(value) if isinstance(value, tuple) else value)
+
+
+def part_of(file, value):
+    """The bytes of the part of the file that an answer's value gives."""
+    start, length = value >> 24, value & 0xFFFFFF
+    return file[start:start + length]
+
+
+def state_of(file, kind, answer):
+    """Kind of state and content (None: no content) in an answer about a capability of a kind."""
+    state, value = answer >> 48, answer & (1 << 48) - 1
+    if state == model.PRESENT and kind == model.STRING:
+        return state, part_of(file, value)
+    if state == model.PRESENT and kind == model.NUMBER:
+        return state, value
+    return state, value or None
+
+
+class Reader:
+    """One file in one edition: each call's answer by the library and by the model."""
+
+    file = Lent(capacity=1 << 16)
+    tables = Lent("Q", 10)
+    kinds = Lent("B", 8)
+    places = Lent("Q", 8)
+    answers = Lent("Q", 8)
+
+    def __init__(self, file, edition):
+        self.file.put(file)
+        self.lent = (self.file.address, self.file.length) + tuple(edition)
+        try:
+            self.entry, self.refusal = model.open_entry(file, edition), 0
+        except model.Refusal as refusal:
+            self.entry, self.refusal = None, pack(refusal.number, refusal.value)
+
+    def file_kept(self):
+        return self.file.kept()
+
+    def open(self):
+        """Answer and tables (None if refused)."""
+        self.tables.put_pattern(10)
+        answer = CALLS["open"](*self.lent, self.tables.address)
+        if answer:
+            require(self.tables.kept(), "tables of a refused file")
+            return answer, None
+        require(self.tables.kept_after(10), "bytes around the tables")
+        return answer, self.tables.written()
+
+    def model_open(self):
+        if self.entry is None:
+            return self.refusal, None
+        return 0, [*self.entry.counts, *self.entry.starts, *self.entry.beyond()]
+
+    def names(self):
+        return CALLS["names"](*self.lent)
+
+    def model_names(self):
+        return NOT_THERE if self.entry is None else pack(value=pack_part(self.entry.names()))
+
+    def state(self, kind, place):
+        return STATE_CALLS[kind](*self.lent, place)
+
+    def model_state(self, kind, place):
+        if self.entry is None:
+            return NOT_THERE
+        try:
+            return pack_state(model.state(self.entry, kind, place))
+        except model.Refusal as refusal:
+            return pack(refusal.number, refusal.value)
+
+    def ask(self, kinds, places):
+        """Answer and eight answers (None if refused)."""
+        self.kinds.put(bytes(kinds))
+        self.places.put(places)
+        self.answers.put_pattern(8)
+        answer = CALLS["ask"](*self.lent, self.kinds.address, self.places.address,
+                              self.answers.address)
+        require(self.kinds.kept() and self.places.kept(), "what is asked")
+        if answer:
+            require(self.answers.kept(), "answers of a refused file")
+            return answer, None
+        require(self.answers.kept_after(8), "bytes around the answers")
+        return answer, self.answers.written()
+
+    def model_ask(self, kinds, places):
+        if self.entry is None:
+            return NOT_THERE, None
+        return 0, [self.model_state(kind, place) for kind, place in zip(kinds, places)]
+
+
+# The arrays of States in the order of the C interface, and the buffer.
+WRITER_LENT = [Lent(code, 1 << 14) for code in ("B", "B", "B", "I", "B", "Q", "Q", "B")]
+WRITER_BUFFER = Lent(capacity=1 << 14)
+
+
+def write(edition, states, room):
+    """The library's answer and the file that it wrote (None if refused)."""
+    arguments = list(edition)
+    for lent, elements in zip(WRITER_LENT, states):
+        lent.put(elements)
+        arguments += (lent.address, lent.length)
+    WRITER_BUFFER.put_pattern(room)
+    answer = CALLS["write"](*arguments, WRITER_BUFFER.address, room)
+    require(all(lent.kept() for lent in WRITER_LENT), "what is lent to the writer")
+    if answer >> 56:
+        require(WRITER_BUFFER.kept(), "buffer of a refused writer")
+        return answer, None
+    require(answer <= room, "length above the buffer's")
+    require(WRITER_BUFFER.kept_after(answer), "bytes around the file")
+    return answer, WRITER_BUFFER.written()[:answer]
+
+
+def model_write(edition, states, room):
+    try:
+        file = model.write(edition, states, room)
+        return len(file), file
+    except model.Refusal as refusal:
+        return pack(refusal.number, refusal.value), None
+
+
+def capability(kind, place):
+    return CALLS["capability"](kind, place)
+
+
+def model_capability(kind, place):
+    if kind >= len(model.LISTS) or place >= len(model.LISTS[kind]):
+        return NOT_THERE
+    name, = struct.unpack("<Q", model.LISTS[kind][place].encode().ljust(8, b"\0"))
+    return name

@@ -1,0 +1,222 @@
+"""Compiled entries as document 01 defines them: opening, asking, writing, and the ordered lists.
+
+Written from document 01 alone, independently of the library; the tests compare the two.
+A refused call raises Refusal. An edition is three counts: booleans, numbers, strings.
+"""
+
+import struct
+from typing import NamedTuple
+
+# The names of the first edition, in compiled order.
+BOOLEANS = "bw am xsb xhp xenl eo gn hc km hs in da db mir msgr os eslok xt hz ul xon".split()
+NUMBERS = "cols it lines lm xmc pb vt wsl".split()
+STRINGS = """
+    cbt bel cr csr tbc clear el ed hpa cmdch cup cud1 home civis cub1 mrcup cnorm cuf1 ll cuu1
+    cvvis dch1 dl1 dsl hd smacs blink bold smcup smdc dim smir invis prot rev smso smul ech rmacs
+    sgr0 rmcup rmdc rmir rmso rmul flash ff fsl is1 is2 is3 if ich1 il1 ip kbs ktbc kclr kctab
+    kdch1 kdl1 kcud1 krmir kel ked kf0 kf1 kf10 kf2 kf3 kf4 kf5 kf6 kf7 kf8 kf9 khome kich1 kil1
+    kcub1 kll knp kpp kcuf1 kind kri khts kcuu1 rmkx smkx lf0 lf1 lf10 lf2 lf3 lf4 lf5 lf6 lf7
+    lf8 lf9 rmm smm nel pad dch dl cud ich indn il cub cuf rin cuu pfkey pfloc pfx mc0 mc4 mc5
+    rep rs1 rs2 rs3 rf rc vpa sc ind ri sgr hts wind ht tsl uc hu
+    """.split()
+LISTS = (BOOLEANS, NUMBERS, STRINGS)
+FIRST_EDITION = (21, 8, 138)
+LARGEST_EDITION = (64, 64, 512)
+
+# The kinds of capability, which are also their places in an edition and in LISTS.
+BOOLEAN, NUMBER, STRING = 0, 1, 2
+# The kinds of state.
+ABSENT, PRESENT, CANCELLED = 0, 1, 2
+
+MAGIC = 0o432
+HEADER_SIZE = 12
+LARGEST_FILE = 4096
+LARGEST_SHORT = 32767
+LEAST_NAMES_SIZE, LARGEST_NAMES_SIZE = 2, 128
+LARGEST_STRING = 1000
+# The marks of a number slot or a string slot, and the bytes of a boolean, by kind of state.
+ABSENT_SLOT, CANCELLED_SLOT = 65535, 65534
+BOOLEAN_BYTES = {ABSENT: 0, PRESENT: 1, CANCELLED: 254}
+
+
+class Refusal(Exception):
+    """A refusal with document 01's number and the value that it gives, 0 where it gives none."""
+
+    def __init__(self, number, value=0):
+        super().__init__(number, value)
+        self.number = number
+        self.value = value
+
+
+class Entry(NamedTuple):
+    """An opened entry: the file, the reader's edition, and where each table starts."""
+
+    file: bytes
+    edition: tuple
+    counts: tuple  # slots of the file: booleans, numbers, strings
+    starts: tuple  # booleans, numbers, string slots, string table
+
+    def beyond(self):
+        """Per list, how many slots of the file lie beyond the edition."""
+        return tuple(max(0, count - known) for count, known in zip(self.counts, self.edition))
+
+    def names(self):
+        """Start and length of the names, without their NUL."""
+        return HEADER_SIZE, self.starts[0] - 1 - HEADER_SIZE
+
+
+def check_edition(edition):
+    if any(count > most for count, most in zip(edition, LARGEST_EDITION)):
+        raise Refusal(3)
+
+
+def pad(names_size, booleans):
+    """How many pad bytes follow the booleans."""
+    return (names_size + booleans) % 2
+
+
+def open_entry(file, edition):
+    """The entry that a file is in an edition."""
+    check_edition(edition)
+    if not HEADER_SIZE <= len(file) <= LARGEST_FILE:
+        raise Refusal(1)
+    magic, names_size, booleans, numbers, strings, table_size = struct.unpack_from("<6H", file)
+    if magic != MAGIC:
+        raise Refusal(2)
+    if max(names_size, booleans, numbers, strings, table_size) > LARGEST_SHORT:
+        raise Refusal(3)
+    if not LEAST_NAMES_SIZE <= names_size <= LARGEST_NAMES_SIZE:
+        raise Refusal(3)
+
+    booleans_start = HEADER_SIZE + names_size
+    pad_start = booleans_start + booleans
+    numbers_start = pad_start + pad(names_size, booleans)
+    slots_start = numbers_start + 2 * numbers
+    table_start = slots_start + 2 * strings
+    if len(file) != table_start + table_size:
+        raise Refusal(1)
+
+    if file[HEADER_SIZE:booleans_start].find(0) != names_size - 1:
+        raise Refusal(4)
+    if any(byte not in (0, 1, 254) for byte in file[booleans_start:pad_start]):
+        raise Refusal(5)
+    if any(file[pad_start:numbers_start]):
+        raise Refusal(5)
+    for slot in struct.unpack_from(f"<{numbers}H", file, numbers_start):
+        if slot > LARGEST_SHORT and slot not in (ABSENT_SLOT, CANCELLED_SLOT):
+            raise Refusal(6)
+    table = file[table_start:]
+    for slot in struct.unpack_from(f"<{strings}H", file, slots_start):
+        if slot not in (ABSENT_SLOT, CANCELLED_SLOT):
+            if slot >= table_size or table.find(0, slot) < 0:
+                raise Refusal(7)
+
+    starts = (booleans_start, numbers_start, slots_start, table_start)
+    return Entry(file, edition, (booleans, numbers, strings), starts)
+
+
+def state(entry, kind, place):
+    """The state of the capability of a kind at a place of its list, as (kind of state, value).
+
+    The value of a present number is a number, that of a present string the start and the length
+    of its part of the file; all other states have the value None.
+    """
+    if kind not in (BOOLEAN, NUMBER, STRING) or place >= entry.edition[kind]:
+        raise Refusal(17)
+    if place >= entry.counts[kind]:
+        return ABSENT, None
+    if kind == BOOLEAN:
+        byte = entry.file[entry.starts[0] + place]
+        return {0: ABSENT, 1: PRESENT, 254: CANCELLED}[byte], None
+    slot, = struct.unpack_from("<H", entry.file, entry.starts[kind] + 2 * place)
+    if slot == ABSENT_SLOT:
+        return ABSENT, None
+    if slot == CANCELLED_SLOT:
+        return CANCELLED, None
+    if kind == NUMBER:
+        return PRESENT, slot
+    start = entry.starts[3] + slot
+    return PRESENT, (start, entry.file.index(0, start) - start)
+
+
+class States(NamedTuple):
+    """What is handed to the writer besides edition and room: kinds of state and their values."""
+
+    names: bytes
+    boolean_kinds: bytes
+    number_kinds: bytes
+    number_values: list
+    string_kinds: bytes
+    string_starts: list
+    string_lengths: list
+    lent: bytes
+
+
+def write(edition, states, room):
+    """The file that the writer gives for these states in an edition, in a buffer of some room.
+
+    A list has as many states as the shortest of its arrays; those past the edition aren't read.
+    A string of no bytes, too, must start within what was lent or at its end.
+    """
+    check_edition(edition)
+    booleans, numbers, strings = edition
+    if (len(states.boolean_kinds) < booleans
+            or min(len(states.number_kinds), len(states.number_values)) < numbers
+            or min(len(states.string_kinds), len(states.string_starts),
+                   len(states.string_lengths)) < strings):
+        raise Refusal(3)
+
+    names = states.names + b"\0"
+    if not LEAST_NAMES_SIZE <= len(names) <= LARGEST_NAMES_SIZE or 0 in states.names:
+        raise Refusal(4)
+
+    boolean_kinds = states.boolean_kinds[:booleans]
+    number_kinds = states.number_kinds[:numbers]
+    string_kinds = states.string_kinds[:strings]
+    present = [place for place, kind in enumerate(string_kinds) if kind == PRESENT]
+    for place in present:
+        if states.string_starts[place] + states.string_lengths[place] > len(states.lent):
+            raise Refusal(7)
+
+    for kinds in (boolean_kinds, number_kinds, string_kinds):
+        if any(kind not in (ABSENT, PRESENT, CANCELLED) for kind in kinds):
+            raise Refusal(13)
+    for kind, value in zip(number_kinds, states.number_values):
+        if kind == PRESENT and value > LARGEST_SHORT:
+            raise Refusal(13)
+    contents = {}
+    for place in present:
+        start, length = states.string_starts[place], states.string_lengths[place]
+        contents[place] = states.lent[start:start + length]
+        if length > LARGEST_STRING or 0 in contents[place]:
+            raise Refusal(13)
+
+    table_size = sum(len(content) + 1 for content in contents.values())
+    pad_bytes = bytes(pad(len(names), booleans))
+    size = (HEADER_SIZE + len(names) + booleans + len(pad_bytes) + 2 * numbers + 2 * strings
+            + table_size)
+    if size > LARGEST_FILE:
+        raise Refusal(9)
+    if size > room:
+        raise Refusal(8, size)
+
+    marks = {ABSENT: ABSENT_SLOT, CANCELLED: CANCELLED_SLOT}
+    number_slots = [value if kind == PRESENT else marks[kind]
+                    for kind, value in zip(number_kinds, states.number_values)]
+    string_slots = []
+    table = b""
+    for place, kind in enumerate(string_kinds):
+        if kind == PRESENT:
+            string_slots.append(len(table))
+            table += contents[place] + b"\0"
+        else:
+            string_slots.append(marks[kind])
+    return b"".join((
+        struct.pack("<6H", MAGIC, len(names), booleans, numbers, strings, table_size),
+        names,
+        bytes(BOOLEAN_BYTES[kind] for kind in boolean_kinds),
+        pad_bytes,
+        struct.pack(f"<{numbers}H", *number_slots),
+        struct.pack(f"<{strings}H", *string_slots),
+        table,
+    ))

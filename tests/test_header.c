@@ -1,0 +1,76 @@
+/* The header in C and in C++: an entry is written, opened and asked, all through its functions. */
+#include <assert.h>
+#include <stdio.h>
+#include <string.h>
+
+#include "terminfo_c.h"
+
+/* Writes an entry with am present, cols#80, it cancelled, and bel=^G, and reads it again. */
+static void example(void) {
+    const uint8_t booleans[] = {TERMINFO_ABSENT, TERMINFO_PRESENT};
+    const uint8_t numbers[] = {TERMINFO_PRESENT, TERMINFO_CANCELLED};
+    const uint8_t strings[] = {TERMINFO_ABSENT, TERMINFO_PRESENT};
+    const uint32_t values[] = {80, 0};
+    const size_t starts[] = {0, 0}, lengths[] = {0, 1};
+    const uint8_t kinds[8] = {TERMINFO_BOOLEAN, TERMINFO_BOOLEAN, TERMINFO_NUMBER, TERMINFO_NUMBER,
+                              TERMINFO_STRING, TERMINFO_STRING, TERMINFO_STRING, 3};
+    const size_t places[8] = {0, 1, 0, 1, 0, 1, 2, 0};
+    uint64_t answer, tables[10], answers[8];
+    uint8_t file[64];
+
+    answer = terminfo_write(2, 2, 2, (const uint8_t *)"d|demo", 6, booleans, 2, numbers, 2, values,
+                            2, strings, 2, starts, 2, lengths, 2, (const uint8_t *)"\a", 1, file,
+                            sizeof file);
+    assert(terminfo_refusal(answer) == 0 && terminfo_value(answer) == 32);
+    assert(terminfo_open(file, 32, 1, 2, 2, tables) == 0);
+    assert(tables[0] == 2 && tables[3] == 19 && tables[6] == 30 && tables[7] == 1);
+
+    answer = terminfo_names(file, 32, 2, 2, 2);
+    assert(terminfo_length(answer) == 6 && !memcmp(file + terminfo_start(answer), "d|demo", 6));
+    answer = terminfo_boolean(file, 32, 2, 2, 2, 1);
+    assert(terminfo_refusal(answer) == 0 && terminfo_kind(answer) == TERMINFO_PRESENT);
+    answer = terminfo_number(file, 32, 2, 2, 2, 0);
+    assert(terminfo_kind(answer) == TERMINFO_PRESENT && terminfo_value(answer) == 80);
+    answer = terminfo_string(file, 32, 2, 2, 2, 1);
+    assert(terminfo_kind(answer) == TERMINFO_PRESENT && terminfo_length(answer) == 1);
+    assert(file[terminfo_start(answer)] == 7);
+
+    assert(terminfo_ask(file, 32, 2, 2, 2, kinds, places, answers) == 0);
+    assert(terminfo_kind(answers[0]) == TERMINFO_ABSENT);
+    assert(terminfo_kind(answers[3]) == TERMINFO_CANCELLED && answers[5] == answer);
+    assert(terminfo_refusal(answers[6]) == 17 && terminfo_refusal(answers[7]) == 17);
+}
+
+/* Refusals, and the name of a capability. */
+static void refusals(void) {
+    const uint8_t file[14] = {26, 1, 2, 0, 0, 0, 0, 0, 0, 0, 0, 0, 'a', 0};
+    uint8_t buffer[13];
+    uint64_t answer, tables[10];
+    const uint8_t none[1] = {0};
+    const uint32_t no_value[1] = {0};
+    const size_t no_size[1] = {0};
+    char name[8];
+
+    assert(terminfo_open(file, 14, 21, 8, 138, tables) == 0);
+    assert(terminfo_refusal(terminfo_open(file, 13, 21, 8, 138, tables)) == 1);
+    assert(terminfo_refusal(terminfo_number(file, 14, 21, 8, 138, 8)) == 17);
+    answer = terminfo_write(0, 0, 0, (const uint8_t *)"a", 1, none, 0, none, 0, no_value, 0, none,
+                            0, no_size, 0, no_size, 0, none, 0, buffer, sizeof buffer);
+    assert(terminfo_refusal(answer) == 8 && terminfo_value(answer) == 14);
+
+    answer = terminfo_capability(TERMINFO_STRING, 67);
+    memcpy(name, &answer, sizeof name);
+    assert(!strcmp(name, "kf10"));
+    assert(terminfo_refusal(terminfo_capability(TERMINFO_NUMBER, 8)) == 17);
+}
+
+int main(void) {
+    example();
+    refusals();
+#ifdef __cplusplus
+    puts("the example works in C++");
+#else
+    puts("the example works in C");
+#endif
+    return 0;
+}

@@ -1,0 +1,560 @@
+"""Compares library and model on generated files and writer inputs, the same ones in every run.
+
+Fails at the first difference, and if a refusal or a kind of state that a call can give never came.
+"""
+
+import random
+import struct
+import sys
+from collections import Counter
+
+import library
+import model
+from library import Reader
+
+SEED = 432
+FILES = 80_000
+WRITER_INPUTS = 40_000
+
+# Sizes and places that wrap or lose bits in narrower arithmetic.
+HUGE = [1 << 8, 1 << 16, 1 << 31, 1 << 32, (1 << 32) + 1, 1 << 63, (1 << 63) + 1, (1 << 64) - 2,
+        (1 << 64) - 1]
+# Bytes where one in sixteen is NUL, and bytes without NUL.
+SOME_NULS = bytes(0 if byte < 16 else byte for byte in range(256))
+NO_NULS = bytes(byte or 1 for byte in range(256))
+
+rng = random.Random(SEED)
+chance = rng.random
+
+
+def pick(*choices):
+    return choices[int(chance() * len(choices))]
+
+
+def below(count):
+    """A number below count, which is at least 1."""
+    return int(chance() * count)
+
+
+def upto(most):
+    return int(chance() * (most + 1))
+
+
+# Counting and comparing
+
+tally = Counter()
+kinds_seen = Counter()
+
+
+def same(call, found, expected, *given):
+    """Counts an answer of the library and compares it with the model's."""
+    answer = found[0] if isinstance(found, tuple) else found
+    tally[call, answer >> 56] += 1
+    if found != expected:
+        print(f"{call} gives {show(found)}, the model {show(expected)}, for")
+        for argument in given:
+            print("   ", show(argument))
+        sys.exit(1)
+    return found
+
+
+def show(value):
+    if isinstance(value, bytes):
+        return value.hex()
+    if isinstance(value, int):
+        return hex(value)
+    if isinstance(value, (tuple, list)):
+        return "[" + ", ".join(map(show, value)) + "]"
+    return str(value)
+
+
+# Files
+
+def pick_counts():
+    """The three counts of a file."""
+    form = chance()
+    if form < 0.35:
+        return [upto(6), upto(4), upto(8)]
+    if form < 0.55:
+        return list(model.FIRST_EDITION)
+    if form < 0.7:
+        return [upto(40), upto(20), upto(60)]
+    if form < 0.8:
+        return [pick(20, 21, 22), pick(7, 8, 9), pick(137, 138, 139)]
+    if form < 0.9:
+        return [pick(0, upto(5)), pick(0, upto(5)), pick(0, upto(5))]
+    if form < 0.97:
+        return [upto(70), upto(70), upto(160)]
+    return [upto(300), upto(300), upto(900)]
+
+
+def pick_names_size():
+    return pick(2, 3, 127, 128, 2 + upto(126), 2 + upto(20), 2 + upto(20))
+
+
+def make_table(room):
+    """A string table and how many of its offsets have a NUL at or after them."""
+    form = chance()
+    if form < 0.15:
+        size = 0
+    elif form < 0.7:
+        size = min(upto(60), room)
+    elif form < 0.85:
+        size = min(upto(1500), room)
+    else:
+        size = max(0, room + pick(-1, 0, 0, 1))
+    table = rng.randbytes(size).translate(SOME_NULS)
+    if table and chance() < 0.6:
+        table = table[:-1] + b"\0"
+    return table, table.rfind(0) + 1
+
+
+def make_slots(count, limit):
+    """String slots with marks, and offsets below the limit that may be shared."""
+    slots = []
+    for _ in range(count):
+        form = chance()
+        if form < 0.25 and limit:
+            slots.append(below(limit))
+        elif form < 0.35 and limit:
+            slots.append(pick(0, limit - 1))
+        else:
+            slots.append(65534 if form < 0.6 else 65535)
+    return slots
+
+
+def make_numbers(count):
+    return [pick(0, 1, 80, 255, 256, 32767, 65534, 65535, 65535, below(32768))
+            for _ in range(count)]
+
+
+def make_file():
+    """A file that meets the reading rules, apart from some that are too long, and its starts."""
+    counts = pick_counts()
+    booleans, numbers, strings = counts
+    names_size = pick_names_size()
+    pad = (names_size + booleans) % 2
+    fixed = 12 + names_size + booleans + pad + 2 * numbers + 2 * strings
+    table, limit = make_table(4096 - fixed)
+    file = bytearray(struct.pack("<6H", 282, names_size, booleans, numbers, strings, len(table)))
+    file += rng.randbytes(names_size - 1).translate(NO_NULS) + b"\0"
+    file += bytes(rng.choices((0, 1, 254), k=booleans))
+    file += bytes(pad)
+    file += struct.pack(f"<{numbers}H", *make_numbers(numbers))
+    file += struct.pack(f"<{strings}H", *make_slots(strings, limit))
+    file += table
+    starts = [12, 12 + names_size, 12 + names_size + booleans]
+    starts.append(starts[2] + pad)
+    starts.append(starts[3] + 2 * numbers)
+    starts.append(starts[4] + 2 * strings)
+    return file, counts, starts
+
+
+# Damage: each takes the file and its starts: names, booleans, pad, numbers, string slots, table.
+
+def put_short(file, at, value):
+    if at + 2 <= len(file):
+        struct.pack_into("<H", file, at, value & 65535)
+
+
+def put_byte(file, at, value):
+    if at < len(file):
+        file[at] = value
+
+
+def flip_bits(file, starts):
+    for _ in range(pick(1, 1, 2, 5)):
+        if file:
+            file[below(len(file))] ^= 1 << below(8)
+
+
+def truncate(file, starts):
+    del file[pick(0, 1, 2, 11, 12, 13, 14, upto(20), *starts, len(file) - 1, len(file) - 2,
+                  upto(len(file))):]
+
+
+def extend(file, starts):
+    file += rng.randbytes(pick(1, 1, 2, 3, upto(30))).translate(SOME_NULS)
+
+
+def extend_far(file, starts):
+    size = pick(4095, 4096, 4097, 4098, 5000, 9000, 60000)
+    file += bytes(max(0, size - len(file)))
+
+
+def change_header(file, starts):
+    at = 2 * below(6)
+    if at + 2 <= len(file):
+        old, = struct.unpack_from("<H", file, at)
+        put_short(file, at, pick(old - 1, old + 1, old - 2, old + 2, old + 256, old ^ 32768, 0, 1,
+                                 2, 127, 128, 129, 130, 255, 256, 32767, 32768, 65534, 65535))
+
+
+def move_counts(file, starts):
+    """Changes two header shorts so that the size stays."""
+    if len(file) < 12:
+        return
+    shorts = list(struct.unpack_from("<6H", file))
+    widths = {1: 1, 2: 1, 3: 2, 4: 2, 5: 1}
+    taken, given = rng.sample(sorted(widths), 2)
+    amount = 2 * (1 + upto(3))
+    if shorts[taken] * widths[taken] >= amount:
+        shorts[taken] -= amount // widths[taken]
+        shorts[given] = min(65535, shorts[given] + amount // widths[given])
+        struct.pack_into("<6H", file, 0, *shorts)
+
+
+def change_magic(file, starts):
+    put_short(file, 0, pick(0, 281, 283, 0o1036, 282 + 32768, 282 << 8 & 65535, upto(65535)))
+
+
+def change_names(file, starts):
+    last = starts[1] - 1
+    if chance() < 0.5:
+        put_byte(file, last, pick(1, 65, 255))
+    else:
+        put_byte(file, pick(12, last - 1, 12 + below(last - 11)), 0)
+
+
+def change_boolean(file, starts):
+    if starts[1] < starts[2]:
+        put_byte(file, pick(starts[1], starts[2] - 1, starts[1] + below(starts[2] - starts[1])),
+                 pick(2, 3, 127, 128, 252, 253, 255, upto(255)))
+
+
+def change_pad(file, starts):
+    if starts[2] < starts[3]:
+        put_byte(file, starts[2], pick(1, 2, 128, 254, 255))
+
+
+def change_slot(file, start, end, value):
+    if start < end:
+        put_short(file, pick(start, end - 2, start + 2 * below((end - start) // 2)), value)
+
+
+def change_number(file, starts):
+    change_slot(file, starts[3], starts[4],
+                pick(32767, 32768, 32769, 65533, 65532, 40000, 255 << 8, 254 << 8, upto(65535)))
+
+
+def change_string(file, starts):
+    size = max(0, len(file) - starts[5])
+    last = file.rfind(0, starts[5]) + 1 - starts[5] if size else 0
+    change_slot(file, starts[4], starts[5],
+                pick(size, size + 1, size - 1, max(0, last), max(0, last - 1), size + 256, 32767,
+                     32768, 65533, 65532, 4096, upto(65535)))
+
+
+def drop_last_nul(file, starts):
+    at = file.rfind(0, starts[5])
+    if at >= 0:
+        file[at] = 7
+
+
+DAMAGES = [flip_bits, truncate, extend, extend_far, change_header, change_header, move_counts,
+           move_counts, change_magic, change_names, change_boolean, change_pad, change_number,
+           change_string, change_string, drop_last_nul]
+
+
+def pick_file():
+    """The bytes of a file, damaged or not, and the counts that it was made with."""
+    file, counts, starts = make_file()
+    form = chance()
+    if form >= 0.45:
+        for _ in range(1 if form < 0.75 else 2 if form < 0.9 else 3):
+            pick(*DAMAGES)(file, starts)
+    return bytes(file), counts
+
+
+def too_large(edition):
+    """The edition with one or more counts that are too large."""
+    edition = list(edition)
+    for kind in rng.sample(range(3), pick(1, 1, 2, 3)):
+        most = model.LARGEST_EDITION[kind]
+        edition[kind] = pick(most + 1, most + 2, *HUGE[2 if kind == 2 else 0:])
+    return tuple(edition)
+
+
+def pick_edition(counts=model.FIRST_EDITION):
+    """An edition: the first, the largest, near a file's counts, anything between, or too large."""
+    form = chance()
+    if form < 0.3:
+        return model.FIRST_EDITION
+    if form < 0.4:
+        return model.LARGEST_EDITION
+    if form < 0.6:
+        return tuple(min(most, max(0, count + pick(-1, 0, 0, 1)))
+                     for count, most in zip(counts, model.LARGEST_EDITION))
+    if form < 0.75:
+        return upto(64), upto(64), upto(512)
+    if form < 0.85:
+        return upto(8), upto(5), upto(10)
+    if form < 0.95:
+        return pick(0, 64, upto(64)), pick(0, 64, upto(64)), pick(0, 512, upto(512))
+    return too_large(model.FIRST_EDITION)
+
+
+def pick_place(known, count):
+    """A place to ask, of a list of which the edition knows some and the file has a count."""
+    form = chance()
+    if form < 0.5:
+        return below(min(known, max(count, 1)) or 1)
+    if form < 0.85:
+        place = pick(0, 1, known - 1, known, known + 1, count - 1, count, count + 1)
+        return min(max(0, place), HUGE[-1])
+    if form < 0.93:
+        return upto(600)
+    return pick(*HUGE)
+
+
+def check_file(file, edition, counts):
+    """Every call of the reader on one file in one edition."""
+    reader = Reader(file, edition)
+    refused, _ = same("open", reader.open(), reader.model_open(), file, edition)
+    same("names", reader.names(), reader.model_names(), file, edition)
+    for kind, call in enumerate(("boolean", "number", "string")):
+        for _ in range(2):
+            place = pick_place(edition[kind], counts[kind])
+            state = same(call, reader.state(kind, place), reader.model_state(kind, place), file,
+                         edition, place)
+            if not state >> 56:
+                kinds_seen[call, state >> 48] += 1
+    kinds = [pick(0, 1, 2, 2) if chance() < 0.95 else pick(3, 4, 128, 254, 255) for _ in range(8)]
+    places = [pick_place(edition[kind], counts[kind]) if kind < 3 else upto(9) for kind in kinds]
+    check_ask(reader, file, edition, kinds, places)
+    if not refused and chance() < 0.1:
+        check_all(reader, file, edition)
+    if not reader.file_kept():
+        sys.exit("the file was changed: " + show(file))
+
+
+def check_ask(reader, file, edition, kinds, places):
+    _, answers = same("ask", reader.ask(kinds, places), reader.model_ask(kinds, places), file,
+                      edition, kinds, places)
+    for answer in answers or ():
+        tally["answers of ask", answer >> 56] += 1
+
+
+def check_all(reader, file, edition):
+    """Every place of the edition, and the first one beyond it."""
+    asked = [(kind, place) for kind in range(3) for place in range(edition[kind] + 1)]
+    asked += [(0, 0)] * (-len(asked) % 8)
+    for first in range(0, len(asked), 8):
+        kinds, places = zip(*asked[first:first + 8])
+        check_ask(reader, file, edition, kinds, places)
+
+
+# Writer inputs
+
+def pick_kinds(count):
+    return bytes(rng.choices((0, 1, 2), weights=pick((2, 1, 1), (8, 1, 1), (1, 8, 1)), k=count))
+
+
+def pick_strings(kinds, lent, longest):
+    """Starts and lengths: present strings lie in what was lent, the others anywhere."""
+    starts, lengths = [], []
+    size = len(lent)
+    for kind in kinds:
+        if kind == model.PRESENT:
+            length = min(size, upto(longest))
+            start = pick(0, size - length, upto(size - length), upto(size - length))
+        else:
+            length, start = pick(0, 5, 1001, HUGE[-1]), pick(0, size, size + 1, *HUGE)
+        starts.append(start)
+        lengths.append(length)
+    return starts, lengths
+
+
+def make_states(edition):
+    """States that the writer accepts, apart from some that make too large a file."""
+    booleans, numbers, strings = edition
+    lent = rng.randbytes(pick(0, 1, upto(50), upto(300), 1000, 1001, 2000)).translate(NO_NULS)
+    longest = pick(0, 1, 5, 5, 20, 20, 60, 1000)
+    number_kinds, string_kinds = pick_kinds(numbers), pick_kinds(strings)
+    values = [pick(0, 80, 32767, below(32768)) if kind == model.PRESENT
+              else pick(0, 32768, 65535, (1 << 32) - 1) for kind in number_kinds]
+    starts, lengths = pick_strings(string_kinds, lent, longest)
+    names = rng.randbytes(pick(1, 2, 126, 127, 1 + upto(126), 1 + upto(30))).translate(NO_NULS)
+    return {"names": names, "boolean_kinds": pick_kinds(booleans), "number_kinds": number_kinds,
+            "number_values": values, "string_kinds": string_kinds, "string_starts": starts,
+            "string_lengths": lengths, "lent": lent}
+
+
+# Faults: each changes the states in one way and may change the edition.
+
+def with_element(elements, at, element):
+    elements = list(elements)
+    elements[at] = element
+    return elements
+
+
+def set_kind(states, field, place, kind):
+    states[field] = bytes(with_element(states[field], place, kind))
+
+
+def bad_names(states, edition):
+    names = states["names"]
+    at = below(len(names)) if names else 0
+    states["names"] = pick(b"", b"\0", b"x" * 128, b"x" * 129, b"x" * 2000, names + b"\0",
+                           names[:at] + b"\0" + names[at + 1:])
+
+
+def too_few(states, edition):
+    field = pick("boolean_kinds", "number_kinds", "number_values", "string_kinds", "string_starts",
+                 "string_lengths")
+    states[field] = states[field][:pick(0, -1, -1, upto(len(states[field])))]
+
+
+def surplus(states, edition):
+    """States beyond the edition, which aren't read whatever they are."""
+    for field in ("boolean_kinds", "number_kinds", "string_kinds"):
+        states[field] += bytes(pick(0, 1, 2, 3, 255) for _ in range(upto(5)))
+    for field in ("number_values", "string_starts", "string_lengths"):
+        states[field] = states[field] + [pick(0, 7, 40000, (1 << 32) - 1) for _ in range(upto(5))]
+
+
+def no_kind(states, edition):
+    field = pick("boolean_kinds", "number_kinds", "string_kinds")
+    if states[field]:
+        place = pick(0, len(states[field]) - 1, below(len(states[field])))
+        set_kind(states, field, place, pick(3, 4, 127, 128, 254, 255))
+
+
+def large_number(states, edition):
+    if states["number_values"] and states["number_kinds"]:
+        place = below(min(len(states["number_values"]), len(states["number_kinds"])))
+        set_kind(states, "number_kinds", place, model.PRESENT)
+        states["number_values"] = with_element(
+            states["number_values"], place,
+            pick(32768, 32769, 65533, 65534, 65535, 65536, 65616, 1 << 31, (1 << 32) - 1))
+
+
+def set_string(states, start, length):
+    """Makes one string present with this start and length."""
+    count = min(len(states["string_kinds"]), len(states["string_starts"]),
+                len(states["string_lengths"]))
+    if count:
+        place = pick(0, count - 1, below(count))
+        set_kind(states, "string_kinds", place, model.PRESENT)
+        states["string_starts"] = with_element(states["string_starts"], place, start)
+        states["string_lengths"] = with_element(states["string_lengths"], place, length)
+
+
+def outside(states, edition):
+    size = len(states["lent"])
+    set_string(states, *pick((size, 1), (size + 1, 0), (0, size + 1), (size, 0),
+                             (HUGE[-1], 0), (HUGE[-1], 1), (HUGE[-1], 2), (HUGE[-2], 1),
+                             (HUGE[-2], 2), (HUGE[-2], 3), (HUGE[-1], HUGE[-1]), (1, HUGE[-1]),
+                             (2, HUGE[-1]), (0, HUGE[-1]), (1 << 63, 1 << 63), (1 << 32, 0),
+                             (1 << 32, 1), (0, 1 << 32), (HUGE[-1], size + 1),
+                             (pick(*HUGE), upto(9)), (upto(9), pick(*HUGE))))
+
+
+def long_string(states, edition):
+    if len(states["lent"]) < 1002:
+        states["lent"] = states["lent"] + b"m" * 1002
+    length = pick(999, 1000, 1000, 1001, 1001, 1002, len(states["lent"]))
+    set_string(states, upto(len(states["lent"]) - length), length)
+
+
+def string_with_nul(states, edition):
+    """A NUL in what was lent, and a string that holds it or ends just before it."""
+    lent = states["lent"]
+    at = upto(len(lent))
+    states["lent"] = lent + b"x" * (at - len(lent)) + b"\0" if at == len(lent) else (
+        lent[:at] + b"\0" + lent[at + 1:])
+    start = upto(at)
+    set_string(states, start, min(pick(at - start, at - start + 1, upto(30)),
+                                  len(states["lent"]) - start))
+
+
+def fit_size(states, edition):
+    """Contents that make the file 4,095 to 4,098 bytes long."""
+    booleans, numbers, strings = edition
+    names = len(states["names"]) + 1
+    if not 4 <= strings <= 512 or len(states["string_kinds"]) < strings:
+        return
+    fixed = 12 + names + booleans + (names + booleans) % 2 + 2 * numbers + 2 * strings
+    contents = pick(4095, 4096, 4096, 4097, 4098) - fixed - 4
+    if not 0 <= contents <= 4000:
+        return
+    lengths = []
+    for left in (4, 3, 2, 1):
+        lengths.append(min(1000, max(0, contents - 1000 * (left - 1))))
+        contents -= lengths[-1]
+    states["lent"] = b"q" * 1000
+    states["string_kinds"] = bytes(rng.sample([1] * 4 + [0, 2] * (strings // 2 - 2)
+                                              + [0] * (strings % 2), strings))
+    present = iter(lengths)
+    states["string_starts"] = [0] * strings
+    states["string_lengths"] = [next(present) if kind == model.PRESENT else 9
+                                for kind in states["string_kinds"]]
+
+
+FAULTS = [bad_names, too_few, surplus, surplus, no_kind, large_number, outside, outside,
+          long_string, string_with_nul, fit_size]
+
+
+def pick_writer_input():
+    edition = pick_edition()
+    states = make_states(tuple(map(min, edition, model.LARGEST_EDITION)))
+    form = chance()
+    if form >= 0.4:
+        for _ in range(1 if form < 0.75 else 2 if form < 0.92 else 3):
+            pick(*FAULTS)(states, edition)
+    return edition, model.States(**states)
+
+
+def check_writer(edition, states):
+    """The writer with enough room, and with room around what the file needs."""
+    room = pick(4096, 4097, 8000)
+    expected = library.model_write(edition, states, room)
+    _, file = same("write", library.write(edition, states, room), expected, edition, *states, room)
+    if file is not None:
+        needed = len(file)
+        room = pick(needed - 1, needed - 1, needed, needed, needed + 1, 0, upto(needed))
+        same("write", library.write(edition, states, room),
+             library.model_write(edition, states, room), edition, *states, room)
+        if chance() < 0.2:
+            check_file(file, pick(edition, pick_edition(edition)), edition)
+    elif chance() < 0.2:
+        room = pick(0, 1, 12, 4096)
+        same("write", library.write(edition, states, room),
+             library.model_write(edition, states, room), edition, *states, room)
+
+
+def check_capabilities():
+    """Every name of the lists, places beyond them, and kinds that are none."""
+    for kind in range(256):
+        places = list(range(150)) + HUGE if kind < 3 else [0, 1, 20, 21, 137, *HUGE]
+        for place in places:
+            same("capability", library.capability(kind, place),
+                 library.model_capability(kind, place), kind, place)
+
+
+def report():
+    """How often each call gave success and each refusal; exits if one never came."""
+    missing = []
+    for call, refusals in library.REFUSALS.items():
+        total = sum(count for (name, _), count in tally.items() if name == call)
+        print(f"{call}: {total} inputs; " + ", ".join(
+            f"{'refusal ' + str(number) if number else 'success'} {tally[call, number]}"
+            for number in refusals))
+        missing += [f"{call} refusal {number}" for number in refusals if not tally[call, number]]
+    for call in ("boolean", "number", "string"):
+        for kind, name in enumerate(("absent", "present", "cancelled")):
+            if not kinds_seen[call, kind]:
+                missing.append(f"{call} {name}")
+    if missing:
+        sys.exit("never seen: " + ", ".join(missing))
+    print(f"{FILES + WRITER_INPUTS} generated inputs, {sum(tally.values())} answers, no difference")
+
+
+if __name__ == "__main__":
+    check_capabilities()
+    for _ in range(FILES):
+        file, counts = pick_file()
+        check_file(file, pick_edition(counts), counts)
+    for _ in range(WRITER_INPUTS):
+        check_writer(*pick_writer_input())
+    report()
