@@ -1,13 +1,13 @@
-// The three ordered lists of capabilities (document 01: Three ordered lists): editions, places, the names in compiled order.
+// The three ordered lists of capabilities (document 01: Three ordered lists): editions, places, kinds.
 ghost use mathlib.Core.Path.{_≡_};
 ghost use Rattle.caps.specs.Edition.{okEdition};
 
 // The most that an edition may count in each list.
-const BOOLEANS_MOST: usize = 64;
+pub const BOOLEANS_MOST: usize = 64;
 
-const NUMBERS_MOST: usize = 64;
+pub const NUMBERS_MOST: usize = 64;
 
-const STRINGS_MOST: usize = 512;
+pub const STRINGS_MOST: usize = 512;
 
 // An edition, document 01's term: how many places of each list it knows, counted from the list's first.
 pub struct Edition {

@@ -24,6 +24,14 @@ namesLeast = 2
 abbrev pub namesMost : ℕ
 namesMost = 128
 
+-- the writer's names, without the NUL
+abbrev pub givenNamesMost : ℕ
+givenNamesMost = 127
+
 -- a string's most bytes, from the writer's caller and from text
 abbrev pub contentMost : ℕ
 contentMost = 1000
+
+-- the boolean byte of a cancelled capability
+abbrev pub cancelledByte : ℕ
+cancelledByte = 254

@@ -41,7 +41,7 @@ merged e a b =
       names = bytesOf a (namesPart (sizesOf a));
       booleans = tabulate (λ i. mergedBoolean a b (place i)) (e .booleans);
       numbers = tabulate (λ i. mergedNumber a b (place i)) (e .numbers);
-      strings = tabulate (λ i. mergedString a b (place i)) (e .strings)
+      strings = tabulate (λ i. mergedString a b (place i)) (e .strings);
     }
 
 -- "Merging: edition 3, first file, second file, 9, 8"; room is the buffer's length, and what is given is the file

@@ -1,4 +1,5 @@
--- What each case of an answer says: document 01's number and values, or what is given. The contracts are stated through these.
+-- What each case of an answer says: document 01's number and values, or what is given. The contracts are stated through these, and no two
+-- answers of a call say the same, so that they determine the answer.
 -- Assumes nothing.
 use mathlib.Core.List.{List, [], _∷_}
 use Prim.Native.Nat.{ℕ}
@@ -41,7 +42,6 @@ saysJudged (J.Refused r) = refused (fileNumber r) []
 
 abbrev pub saysOpened : Opened → Answer Opening
 saysOpened (O.Entry t b) = gives (record { tables = t; beyond = b })
-saysOpened O.Edition = refused 3 []
 saysOpened (O.Refused r) = refused (fileNumber r) []
 
 abbrev pub saysNames : Names → Answer Part
@@ -79,8 +79,6 @@ saysWritten (W.Room n) = refused 8 (n ∷ [])
 -- what is given is the file's length
 abbrev pub saysMerged : Merged → Answer ℕ
 saysMerged (G.File n) = gives n
-saysMerged G.Edition = refused 3 []
-saysMerged (G.First r) = refused (fileNumber r) []
-saysMerged (G.Second r) = refused (fileNumber r) []
+saysMerged (G.Refused r) = refused (fileNumber r) []
 saysMerged G.Size = refused 9 []
 saysMerged (G.Room n) = refused 8 (n ∷ [])

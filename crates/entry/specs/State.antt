@@ -5,6 +5,7 @@ use mathlib.Core.Bool.{Bool, _||_}
 use Prim.Native.Nat.{ℕ, _-_, _/_, _^_}
 use lib.Dec.{eqb, ltb}
 use Rattle.base.specs.If.{if_then_else_}
+use Rattle.entry.specs.Limits.{cancelledByte}
 
 -- "A capability is absent, cancelled, or present": a boolean bare (Unit), a number with its value, a string with its bytes
 pub data State (A : Type 0) : Type 0 where
@@ -51,15 +52,15 @@ okSlot w ok c = ok c || (eqb c (absentMark w) || eqb c (cancelledMark w))
 -- ---- boolean bytes: "0 absent, 1 present, 254 cancelled (ours)"
 
 unfoldable pub okBoolean : ℕ → Bool
-okBoolean c = eqb c 0 || (eqb c 1 || eqb c 254)
+okBoolean c = eqb c 0 || (eqb c 1 || eqb c cancelledByte)
 
 unfoldable pub booleanOf : ℕ → State Unit
 booleanOf c =
     if eqb c 0 then absent
-    else if eqb c 254 then cancelled
+    else if eqb c cancelledByte then cancelled
     else present tt
 
 unfoldable pub booleanCode : State Unit → ℕ
 booleanCode absent = 0
-booleanCode cancelled = 254
+booleanCode cancelled = cancelledByte
 booleanCode (present x) = 1

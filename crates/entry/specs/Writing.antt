@@ -14,7 +14,7 @@ use Rattle.caps.specs.declared.Edition.{Edition}
 use Rattle.caps.specs.Edition.{okEdition}
 use Rattle.entry.specs.declared.Sizes.{Sizes}
 use Rattle.entry.specs.declared.Offset.{Offset}
-use Rattle.entry.specs.Limits.{magic, fileMost, shortMost, contentMost}
+use Rattle.entry.specs.Limits.{magic, fileMost, shortMost, givenNamesMost, contentMost}
 use Rattle.entry.specs.State.{State, absent, cancelled, present, mapState, codeOf, booleanCode}
 use Rattle.entry.specs.Answer.{Answer, refused, gives}
 use Rattle.entry.specs.Layout.{padOf}
@@ -121,9 +121,9 @@ enoughStates e h =
 
 -- "1 to 127 bytes without NUL"
 unfoldable pub namesFit : List ℕ → Bool
-namesFit n = leb 1 (length n) && (leb (length n) 127 && eqb (nulFrom n 0 (length n)) (length n))
+namesFit n = leb 1 (length n) && (leb (length n) givenNamesMost && eqb (nulFrom n 0 (length n)) (length n))
 
--- a present string that isn't in what was lent: its start plus its length passes the lent bytes
+-- a string is in what was lent: its start plus its length doesn't pass the lent bytes; only a present state has a string
 unfoldable pub isLent : Handed → ℕ → Bool
 isLent h i = not (eqb (getD (h .stringKinds) i 0) 1) || leb (getD (h .stringStarts) i 0 + getD (h .stringLengths) i 0) (length (h .lent))
 

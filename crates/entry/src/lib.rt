@@ -1,4 +1,35 @@
-// The compiled entry's types: what calls take and what they answer. The meaning of all of them is in specs/.
+// The compiled entry's numbers and types: what calls take and what they answer. The meaning of all of them is in specs/.
+
+// The header's first short.
+pub const MAGIC: usize = 282;
+// The header's bytes: six shorts.
+pub const HEADER_SIZE: usize = 12;
+// A file's most bytes.
+pub const FILE_MOST: usize = 4096;
+// The most that a header's short may hold.
+pub const SHORT_MOST: usize = 32767;
+// A names size, with the NUL.
+pub const NAMES_LEAST: usize = 2;
+
+pub const NAMES_MOST: usize = 128;
+// A string's most bytes, from the writer's caller and from text.
+pub const CONTENT_MOST: usize = 1000;
+
+// The boolean byte of a cancelled capability.
+pub const CANCELLED_BYTE: u8 = 254;
+// The marks of a slot of two bytes, and the first number that it can't present.
+pub const ABSENT_MARK: usize = 65535;
+
+pub const CANCELLED_MARK: usize = 65534;
+
+pub const HALF: usize = 32768;
+
+// The kinds of a state that is handed over; any other number is no kind.
+pub const ABSENT: u8 = 0;
+
+pub const PRESENT: u8 = 1;
+
+pub const CANCELLED: u8 = 2;
 
 // An offset into the string table. Never a place of a list.
 pub struct Offset(pub usize);
@@ -43,7 +74,7 @@ pub enum FileRefusal {
     Length,
     // 2: magic not 282
     Magic,
-    // 3: a header short above 32,767, or a names size outside 2 to 128
+    // 3: a header short above 32,767, or a names size outside 2 to 128; of opening and merging, also an edition that is too large
     Counts,
     // 4: names
     Names,
@@ -64,8 +95,6 @@ pub enum Judged {
 // What opening a file in an edition answers.
 pub enum Opened {
     Entry(Tables, Beyond),
-    // 3: the edition is too large
-    Edition,
     Refused(FileRefusal),
 }
 
@@ -126,12 +155,8 @@ pub enum Written {
 pub enum Merged {
     // the file's length
     File(usize),
-    // 3: the edition is too large
-    Edition,
-    // 1 to 7: why the first file is refused
-    First(FileRefusal),
-    // 1 to 7: why the second file is refused
-    Second(FileRefusal),
+    // 3: the edition is too large; 1 to 7: why the first file is refused, else the second
+    Refused(FileRefusal),
     // 9: the file would be longer than 4,096 bytes
     Size,
     // 8: the buffer is too short; the file's length

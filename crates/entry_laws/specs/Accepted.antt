@@ -15,7 +15,7 @@ use Rattle.word.specs.Nul.{notNul, nulFrom}
 use Rattle.caps.specs.declared.Place.{Place}
 use Rattle.entry.specs.declared.Sizes.{Sizes}
 use Rattle.entry.specs.declared.Offset.{Offset}
-use Rattle.entry.specs.Limits.{magic, headerSize, fileMost, namesLeast, namesMost}
+use Rattle.entry.specs.Limits.{magic, headerSize, fileMost, namesLeast, namesMost, givenNamesMost}
 use Rattle.entry.specs.State.{State, absent, cancelled, present, mapState, half}
 use Rattle.entry.specs.Answer.{Answer, refused, gives}
 use Rattle.entry.specs.Layout.{sizesOf, booleansAt, numbersAt, stringsAt, tableAt, sizeOf}
@@ -151,7 +151,7 @@ module _ (f : List ℕ) (a : Accepted f) where
   pub names-least : 1 ≤ length (bytesOf f (namesPart (sizesOf f)))
   names-least = let n : namesLeast ≤ sizesOf f .names = counts-names-least (sizesOf f) (a .counts) in rw names-length (omega arith)
 
-  pub names-most : length (bytesOf f (namesPart (sizesOf f))) ≤ 127
+  pub names-most : length (bytesOf f (namesPart (sizesOf f))) ≤ givenNamesMost
   names-most = let n : sizesOf f .names ≤ namesMost = counts-names-most (sizesOf f) (a .counts) in rw names-length (omega arith)
 
   pub names-free : NoNul (bytesOf f (namesPart (sizesOf f)))

@@ -14,7 +14,7 @@ use Rattle.base.specs.Tabulate.{each-tabulate}
 use Rattle.caps.specs.declared.Edition.{Edition}
 use Rattle.caps.specs.declared.Place.{Place}
 use Rattle.caps.specs.Edition.{okEdition, knows}
-use Rattle.entry.specs.Limits.{fileMost, shortMost, contentMost}
+use Rattle.entry.specs.Limits.{fileMost, shortMost, contentMost, givenNamesMost}
 use Rattle.entry.specs.State.{absent, mapState}
 use Rattle.entry.specs.Answer.{Answer, refused, gives, mapAnswer, isGiven}
 use Rattle.entry.specs.Reading.{Entry, bytesOf, heldBoolean, heldNumber, heldString, editionOf, view}
@@ -34,7 +34,7 @@ pub record Meets (e : Edition) (h : Handed) : Type 0 where
   pub booleans : e .booleans ≤ length (h .booleanKinds)
   pub numbers : (e .numbers ≤ length (h .numberKinds)) × (e .numbers ≤ length (h .numberValues))
   pub strings : (e .strings ≤ length (h .stringKinds)) × ((e .strings ≤ length (h .stringStarts)) × (e .strings ≤ length (h .stringLengths)))
-  pub named : (1 ≤ length (h .names)) × (length (h .names) ≤ 127)
+  pub named : (1 ≤ length (h .names)) × (length (h .names) ≤ givenNamesMost)
   pub namesFree : NoNul (h .names)
   pub lent : (i : ℕ) → i < e .strings → getD (h .stringKinds) i 0 ≡ 1 → getD (h .stringStarts) i 0 + getD (h .stringLengths) i 0 ≤ length (h .lent)
   pub booleanKinds : (i : ℕ) → i < e .booleans → getD (h .booleanKinds) i 0 ≤ 2

@@ -79,15 +79,20 @@ merged-sound e a b o p q h =
       fits = h;
     }
 
--- ---- an edition that knows no more
+-- ---- editions
+
+pub edition-counts : (e : Edition) → okEdition e ≡ true → (e .booleans ≤ booleansMost) × ((e .numbers ≤ numbersMost) × (e .strings ≤ stringsMost))
+unfolding okEdition
+edition-counts e o =
+    let t = and-right (leb (e .booleans) booleansMost) _ o in (
+      leb-true _ _ (and-left (leb (e .booleans) booleansMost) _ o),
+      (leb-true _ _ (and-left (leb (e .numbers) numbersMost) _ t), leb-true _ _ (and-right (leb (e .numbers) numbersMost) _ t)),
+    )
 
 pub edition-no-more : (r e : Edition) → NoMore r e → okEdition e ≡ true → okEdition r ≡ true
 unfolding okEdition
 edition-no-more r e k o =
-    let t = and-right (leb (e .booleans) booleansMost) _ o in
-    let a : e .booleans ≤ booleansMost = leb-true _ _ (and-left (leb (e .booleans) booleansMost) _ o) in
-    let b : e .numbers ≤ numbersMost = leb-true _ _ (and-left (leb (e .numbers) numbersMost) _ t) in
-    let c : e .strings ≤ stringsMost = leb-true _ _ (and-right (leb (e .numbers) numbersMost) _ t) in
+    let m = edition-counts e o in
     let x = k .booleans in
     let y = k .numbers in
     let z = k .strings in
@@ -109,7 +114,7 @@ table-grows g (suc n) (suc m) h = by-first (g 0) (table-grows (λ i. g (suc i)) 
     by-first cancelled ih = ih
     by-first (present t) ih = rw (length-append t (0 ∷ stringTable (tabulate (λ i. g (suc i)) n)), length-append t (0 ∷ stringTable (tabulate (λ i. g (suc i)) m))) (omega arith)
 
--- its merge is no longer
+-- the merge of an edition that knows no more is no longer
 pub merged-size : (e r : Edition) (a b : List ℕ) → NoMore r e → length (encode (merged r a b)) ≤ length (encode (merged e a b))
 unfolding sizesFor merged
 merged-size e r a b k =

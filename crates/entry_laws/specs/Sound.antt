@@ -8,7 +8,7 @@ use lib.ListN.{length}
 use Rattle.base.specs.Tabulate.{Each}
 use Rattle.caps.specs.declared.Edition.{Edition}
 use Rattle.caps.specs.Edition.{okEdition}
-use Rattle.entry.specs.Limits.{fileMost, shortMost}
+use Rattle.entry.specs.Limits.{fileMost, shortMost, givenNamesMost}
 use Rattle.entry.specs.State.{State, absent, cancelled, present}
 use Rattle.entry.specs.Reading.{Entry, editionOf}
 use Rattle.entry.specs.Writing.{encode}
@@ -31,7 +31,7 @@ ContentFree (present s) = NoNul s
 pub record Sound (x : Entry) : Type 0 where
   pub edition : okEdition (editionOf x) ≡ true
   pub named : 1 ≤ length (x .names)
-  pub namesMost : length (x .names) ≤ 127
+  pub namesMost : length (x .names) ≤ givenNamesMost
   pub namesFree : NoNul (x .names)
   pub numbersFit : Each NumberFits (x .numbers)
   pub stringsFree : Each ContentFree (x .strings)

@@ -9,25 +9,19 @@ ghost use Rattle.word.specs.Word.{bytes, words};
 ghost use Rattle.entry.specs.State.{booleanCode, codeOf};
 ghost use Rattle.entry.specs.Writing.{header, padding, numberCode, offsetCode, stringTable, stateOf};
 ghost use Rattle.put.specs.Table.{booleansOf, numbersOf, slotsOf, stringOf, stringsOf, tableBytes, total, InPools, TableFits};
+use entry::ABSENT;
+use entry::ABSENT_MARK;
+use entry::CANCELLED_BYTE;
+use entry::CANCELLED_MARK;
+use entry::MAGIC;
 use entry::Offset;
+use entry::PRESENT;
 use entry::Sizes;
 
-const MAGIC: usize = 282;
-
-// The kinds of state; any other number counts as cancelled here.
-const ABSENT: u8 = 0;
-
-const PRESENT: u8 = 1;
-
+// The bytes of an absent and of a present boolean.
 const ABSENT_BYTE: u8 = 0;
 
 const PRESENT_BYTE: u8 = 1;
-
-const CANCELLED_BYTE: u8 = 254;
-
-const ABSENT_SLOT: usize = 65535;
-
-const CANCELLED_SLOT: usize = 65534;
 
 // The header.
 pub fn put_header(b: &mut [u8], s: Sizes)
@@ -103,12 +97,12 @@ pub fn slot_code(kind: u8, code: usize) -> usize
     ensures { λ r. ⌜ r ≡ codeOf 2 (stateOf kind code) ⌝ }
 {
     if kind == ABSENT {
-        return ABSENT_SLOT;
+        return ABSENT_MARK;
     }
     if kind == PRESENT {
         return code;
     }
-    CANCELLED_SLOT
+    CANCELLED_MARK
 }
 
 // The slots of the first n numbers.

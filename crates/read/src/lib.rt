@@ -13,25 +13,19 @@ ghost use Rattle.entry.specs.Says.{saysJudged, saysOpened};
 ghost use Rattle.read.specs.Framed.{Shorts, Framed};
 use caps::Edition;
 use entry::Beyond;
+use entry::FILE_MOST;
 use entry::FileRefusal;
+use entry::HEADER_SIZE;
 use entry::Judged;
+use entry::MAGIC;
+use entry::NAMES_LEAST;
+use entry::NAMES_MOST;
 use entry::Opened;
+use entry::SHORT_MOST;
 use entry::Sizes;
 use entry::Tables;
 
 mod tables;
-
-const MAGIC: usize = 282;
-
-const HEADER_SIZE: usize = 12;
-
-const FILE_MOST: usize = 4096;
-
-const SHORT_MOST: usize = 32767;
-
-const NAMES_LEAST: usize = 2;
-
-const NAMES_MOST: usize = 128;
 
 // The header's sizes.
 fn sizes(file: &[u8]) -> Sizes
@@ -166,7 +160,7 @@ pub fn open(file: &[u8], edition: Edition) -> Opened
     ensures { λ r. ⌜ saysOpened r ≡ opening edition (now (file .entry)) ⌝ }
 {
     if !caps::edition_ok(edition) {
-        return Opened::Edition;
+        return Opened::Refused(FileRefusal::Counts);
     }
     match judge(file) {
         Judged::Accepted(s) => Opened::Entry(tables_for(s), beyond(edition, s)),

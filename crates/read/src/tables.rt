@@ -9,18 +9,13 @@ ghost use Rattle.word.specs.Word.{word};
 ghost use Rattle.entry.specs.State.{okBoolean, okSlot};
 ghost use Rattle.entry.specs.Reading.{okNames, okBooleans, okPad, okNumbers, okStrings};
 ghost use Rattle.read.specs.Framed.{Framed, OffsetsEnd};
+use entry::ABSENT_MARK;
+use entry::CANCELLED_BYTE;
+use entry::CANCELLED_MARK;
+use entry::HALF;
+use entry::HEADER_SIZE;
 use entry::Sizes;
 use entry::Tables;
-
-const HEADER_SIZE: usize = 12;
-
-const CANCELLED: u8 = 254;
-
-const ABSENT_MARK: usize = 65535;
-
-const CANCELLED_MARK: usize = 65534;
-// The first number that a slot of two bytes can't present.
-const HALF: usize = 32768;
 
 fn boolean_ok(c: u8) -> bool
     ensures { λ r. ⌜ r ≡ okBoolean c ⌝ }
@@ -31,7 +26,7 @@ fn boolean_ok(c: u8) -> bool
     if c == 1 {
         return true;
     }
-    c == CANCELLED
+    c == CANCELLED_BYTE
 }
 
 // The first bad boolean byte of n from at on; n where there is none.

@@ -237,3 +237,7 @@ module _ {A B C : Type 0} (g : A → C) (h : B → C) (xs : List A) (ys : List B
   -- all of them
   pub map-whole : length xs ≤ i → length ys ≤ i → map g (take i xs) ≡ map h (take i ys) → map g xs ≡ map h ys
   map-whole l m p = ap (map g) (sym (take-all i xs l)) ∙ p ∙ ap (map h) (take-all i ys m)
+
+-- where a part of a slice at offset o of its block points
+pub part-place : (o : ℕ) (q d : Part) → q ≡ d → q .start + o ≡ o + d .start
+part-place o q d e = let h : q .start ≡ d .start = ap (λ (p : Part). p .start) e in omega arith

@@ -28,15 +28,20 @@ pub enum Reply {
 }
 
 // The reply to one question, by what opening answered.
-pub fn reply_by(file: &[u8], edition: Edition, o: Opened, question: Question) -> Reply
+fn reply_if_opened(file: &[u8], edition: Edition, o: Opened, question: Question) -> Reply
     requires { ⌜ saysOpened o ≡ opening edition (now file) ⌝ }
     ensures { λ r. ⌜ saysReply r ≡ replying edition (now (file .entry)) question ⌝ }
 {
     match question {
         Question::Nothing => Reply::Nothing,
-        Question::Boolean(p) => Reply::Boolean(crate::opened::boolean_by(file, edition, o, p)),
-        Question::Number(p) => Reply::Number(crate::opened::number_by(file, edition, o, p)),
-        Question::String(p) => Reply::String(crate::opened::string_by(file, edition, o, p)),
+        Question::Boolean(p) => Reply::Boolean(crate::opened::boolean_if_opened(
+            file,
+            edition,
+            o,
+            p,
+        )),
+        Question::Number(p) => Reply::Number(crate::opened::number_if_opened(file, edition, o, p)),
+        Question::String(p) => Reply::String(crate::opened::string_if_opened(file, edition, o, p)),
     }
 }
 
@@ -49,7 +54,7 @@ pub fn ask(file: &[u8], edition: Edition, questions: [Question; 8]) -> [Reply; 8
     let mut i = 0;
     while i < 8 {
         let q = questions[i];
-        replies[i] = reply_by(file, edition, o, q);
+        replies[i] = reply_if_opened(file, edition, o, q);
         i += 1;
     }
     replies

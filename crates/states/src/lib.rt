@@ -1,9 +1,9 @@
 // Asks files for names and states, place by place (document 01: Compiled entry). Proved: each call of this file answers every slice
 // of bytes, every edition and every place as the definition of entry/specs that its contract names. Assumed: nothing.
 ghost use mathlib.Core.Path.{_≡_};
-ghost use Rattle.entry.specs.Reading.{bytesOf};
 ghost use Rattle.entry.specs.Asking.{askingNames, askingBoolean, askingNumber, askingString, partGiven, namesGiven};
 ghost use Rattle.entry.specs.Says.{saysNames, saysBoolean, saysNumber, saysString};
+ghost use Rattle.states.specs.Held.{IsPart};
 use caps::Edition;
 use caps::Place;
 use entry::BooleanState;
@@ -21,7 +21,6 @@ pub fn names(file: &[u8], edition: Edition) -> Names
 {
     match read::open(file, edition) {
         Opened::Entry(t, _) => Names::At(opened::names_opened(file, edition, t)),
-        Opened::Edition => Names::Refused,
         Opened::Refused(_) => Names::Refused,
     }
 }
@@ -31,7 +30,7 @@ pub fn boolean(file: &[u8], edition: Edition, place: Place) -> BooleanState
     ensures { λ r. ⌜ saysBoolean r ≡ askingBoolean edition (now (file .entry)) place ⌝ }
 {
     let o = read::open(file, edition);
-    opened::boolean_by(file, edition, o, place)
+    opened::boolean_if_opened(file, edition, o, place)
 }
 
 // The state of the number at a place.
@@ -39,7 +38,7 @@ pub fn number(file: &[u8], edition: Edition, place: Place) -> NumberState
     ensures { λ r. ⌜ saysNumber r ≡ askingNumber edition (now (file .entry)) place ⌝ }
 {
     let o = read::open(file, edition);
-    opened::number_by(file, edition, o, place)
+    opened::number_if_opened(file, edition, o, place)
 }
 
 // The state of the string at a place: where its content stands in the file.
@@ -47,12 +46,12 @@ pub fn string(file: &[u8], edition: Edition, place: Place) -> StringState
     ensures { λ r. ⌜ saysString r ≡ askingString edition (now (file .entry)) place ⌝ }
 {
     let o = read::open(file, edition);
-    opened::string_by(file, edition, o, place)
+    opened::string_if_opened(file, edition, o, place)
 }
 
 // The content of the string at a place, as that part of the file; the empty part at the file's start where no content is given.
 pub fn string_part(file: &[u8], edition: Edition, place: Place) -> &[u8]
-    ensures { λ r. ⌜ now r ≡ bytesOf (now (file .entry)) (partGiven (askingString edition (now (file .entry)) place)) ⌝ }
+    ensures { λ r. ⌜ IsPart (file .entry) r (partGiven (askingString edition (now (file .entry)) place)) ⌝ }
 {
     match string(file, edition, place) {
         StringState::Present(p) => {
@@ -68,7 +67,7 @@ pub fn string_part(file: &[u8], edition: Edition, place: Place) -> &[u8]
 
 // The file's names, as that part of the file; the empty part at the file's start where opening would refuse.
 pub fn names_part(file: &[u8], edition: Edition) -> &[u8]
-    ensures { λ r. ⌜ now r ≡ bytesOf (now (file .entry)) (namesGiven (askingNames edition (now (file .entry)))) ⌝ }
+    ensures { λ r. ⌜ IsPart (file .entry) r (namesGiven (askingNames edition (now (file .entry)))) ⌝ }
 {
     match names(file, edition) {
         Names::At(p) => {

@@ -12,21 +12,17 @@ ghost use Rattle.entry.specs.Says.{saysOpened, saysBoolean, saysNumber, saysStr
 ghost use Rattle.states.specs.Opened.{OpenedAs, saysSlot, CodeFits, saysOffset, OffsetFits};
 use caps::Edition;
 use caps::Place;
+use entry::ABSENT_MARK;
 use entry::BooleanState;
+use entry::CANCELLED_BYTE;
+use entry::CANCELLED_MARK;
+use entry::HEADER_SIZE;
 use entry::NumberState;
 use entry::Offset;
 use entry::Opened;
 use entry::Part;
 use entry::StringState;
 use entry::Tables;
-
-const HEADER_SIZE: usize = 12;
-
-const CANCELLED: u8 = 254;
-
-const ABSENT_MARK: usize = 65535;
-
-const CANCELLED_MARK: usize = 65534;
 
 // What a slot says.
 pub enum Slot {
@@ -60,7 +56,7 @@ fn boolean_of(c: u8) -> BooleanState
     if c == 0 {
         return BooleanState::Absent;
     }
-    if c == CANCELLED {
+    if c == CANCELLED_BYTE {
         return BooleanState::Cancelled;
     }
     BooleanState::Present
@@ -151,37 +147,34 @@ pub fn string_opened(file: &[u8], edition: Edition, t: Tables, place: Place) -> 
 }
 
 // The same by what opening answered.
-pub fn boolean_by(file: &[u8], edition: Edition, o: Opened, place: Place) -> BooleanState
+pub fn boolean_if_opened(file: &[u8], edition: Edition, o: Opened, place: Place) -> BooleanState
     requires { ⌜ saysOpened o ≡ opening edition (now file) ⌝ }
     ensures { λ r. ⌜ saysBoolean r ≡ askingBoolean edition (now (file .entry)) place ⌝ }
 {
     match o {
         Opened::Entry(t, _) => boolean_opened(file, edition, t, place),
-        Opened::Edition => BooleanState::Refused,
         Opened::Refused(_) => BooleanState::Refused,
     }
 }
 
 // The same by what opening answered.
-pub fn number_by(file: &[u8], edition: Edition, o: Opened, place: Place) -> NumberState
+pub fn number_if_opened(file: &[u8], edition: Edition, o: Opened, place: Place) -> NumberState
     requires { ⌜ saysOpened o ≡ opening edition (now file) ⌝ }
     ensures { λ r. ⌜ saysNumber r ≡ askingNumber edition (now (file .entry)) place ⌝ }
 {
     match o {
         Opened::Entry(t, _) => number_opened(file, edition, t, place),
-        Opened::Edition => NumberState::Refused,
         Opened::Refused(_) => NumberState::Refused,
     }
 }
 
 // The same by what opening answered.
-pub fn string_by(file: &[u8], edition: Edition, o: Opened, place: Place) -> StringState
+pub fn string_if_opened(file: &[u8], edition: Edition, o: Opened, place: Place) -> StringState
     requires { ⌜ saysOpened o ≡ opening edition (now file) ⌝ }
     ensures { λ r. ⌜ saysString r ≡ askingString edition (now (file .entry)) place ⌝ }
 {
     match o {
         Opened::Entry(t, _) => string_opened(file, edition, t, place),
-        Opened::Edition => StringState::Refused,
         Opened::Refused(_) => StringState::Refused,
     }
 }

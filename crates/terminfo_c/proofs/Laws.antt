@@ -1,36 +1,44 @@
 -- The cases of the C calls' numbers, as their code meets them.
 -- Assumes nothing.
 use mathlib.Core.Path.{_≡_, refl, sym, ap, _∙_}
-use mathlib.Core.Bool.{Bool, true, false, not}
+use mathlib.Core.Bool.{Bool, true, false, _&&_, not}
 use mathlib.Core.List.{List, [], _∷_}
 use Prim.Native.Nat.{ℕ, _+_, _*_, _^_, _≤_, _<_}
 use native.Mathlib.Omega.{arith}
-use lib.Dec.{leb}
+use lib.Dec.{eqb, leb}
 use lib.ListN.{length, getD}
 use borrow.Author.Tests.{eq-eqb, ne-eqb, leb-true}
 use Rattle.base.specs.If.{if_then_else_}
 use Rattle.base.specs.Scan.{every}
 use Rattle.base.specs.Tabulate.{tabulate}
+use Rattle.word.specs.Word.{word}
 use Rattle.caps.specs.declared.Edition.{Edition}
 use Rattle.caps.specs.declared.Kind.the-variants as Kinds
 use Rattle.caps.specs.declared.Place.{Place}
-use Rattle.caps.specs.Edition.{place}
+use Rattle.caps.specs.Edition.{okEdition, place}
 use Rattle.entry.specs.declared.Names.{Names}
 use Rattle.entry.specs.declared.Names.the-variants as M
 use Rattle.entry.specs.declared.StringState.{StringState}
 use Rattle.entry.specs.declared.StringState.the-variants as S
 use Rattle.entry.specs.declared.Written.{Written}
 use Rattle.entry.specs.declared.Written.the-variants as W
-use Rattle.entry.specs.Limits.{fileMost}
+use Rattle.entry.specs.declared.Merged.{Merged}
+use Rattle.entry.specs.declared.Merged.the-variants as G
+use Rattle.entry.specs.declared.Sizes.{Sizes}
+use Rattle.entry.specs.Limits.{magic, headerSize, fileMost}
 use Rattle.entry.specs.State.{present}
-use Rattle.entry.specs.Answer.{Answer, refused, gives, mapAnswer, isGiven}
+use Rattle.entry.specs.Answer.{Answer, refused, gives, mapAnswer, andThen, isGiven}
+use Rattle.entry.specs.Layout.{sizesOf, sizeOf}
+use Rattle.entry.specs.Reading.{okCounts, okNames, okBooleans, okPad, okNumbers, okStrings, reading}
 use Rattle.entry.specs.Asking.{Opening, opening, asking, askingNames, askingBoolean, askingNumber, askingString}
 use Rattle.entry.specs.Writing.{Handed, encode, entryOf, enoughStates, namesFit, isLent, statesFit, writing}
-use Rattle.entry.specs.Says.{saysNames, saysString, saysWritten}
+use Rattle.entry.specs.Merging.{merged, merging}
+use Rattle.entry.specs.Says.{saysNames, saysString, saysWritten, saysMerged}
 use Rattle.entry_laws.specs.Demands.{written-only-if}
+use Rattle.entry_laws.specs.MergeDemands.{merged-only-if}
 use Rattle.names.specs.Naming.{naming}
 use Rattle.states.proofs.Laws.{asking-given, opened-accepted, names-inside, string-inside}
-use Rattle.terminfo_c.specs.Numbers.{numbered, none, arrayAfter, openingArray, booleanCode, numberCode, stringCode, askedCode, asking8, namingBy, NamesWithin, StringWithin, WrittenWithin}
+use Rattle.terminfo_c.specs.Numbers.{numbered, none, arrayAfter, openingArray, booleanCode, numberCode, stringCode, askedCode, asking8, namingBy, NamesWithin, StringWithin, WrittenWithin, MergedWithin}
 
 -- ---- parts lie in a file
 
@@ -129,32 +137,46 @@ map-gives : (n : ℕ) (a : Answer (List ℕ)) → gives n ≡ mapAnswer length a
 map-gives n (refused m w) e = absurd (let z : _≡_ {A = ℕ} 0 1 = cc in (let y : ⊥ = omega arith in y))
 map-gives n (gives f) e = (f, (cc, refl))
 
--- another refusal was not given
-not-given : {A : Type 0} (t : Bool) (k n : ℕ) (v : List ℕ) (a : Answer A) → (n ≡ k → ⊥) → refused n v ≡ (if not t then refused k [] else a) → (t ≡ true) × (refused n v ≡ a)
-not-given true k n v a h e = (refl, e)
-not-given false k n v a h e = absurd (h (cc))
-
 -- the length that 8 gives is at most a file's
-room-most : (e : Edition) (h : Handed) (room n : ℕ) → refused 8 (n ∷ []) ≡ writing e h room → n ≤ fileMost
-unfolding writing
-room-most e h room n g =
-    let v : List ℕ = n ∷ [] in
-    let size : ℕ = length (encode (entryOf e h)) in
-    let a₆ : Answer (List ℕ) = if not (leb size room) then refused 8 (size ∷ []) else gives (encode (entryOf e h)) in
-    let a₅ : Answer (List ℕ) = if not (leb size fileMost) then refused 9 [] else a₆ in
-    let a₄ : Answer (List ℕ) = if not (statesFit e h) then refused 13 [] else a₅ in
-    let a₃ : Answer (List ℕ) = if not (every (isLent h) (e .strings)) then refused 7 [] else a₄ in
-    let a₂ : Answer (List ℕ) = if not (namesFit (h .names)) then refused 4 [] else a₃ in
-    let p₁ = not-given (enoughStates e h) 3 8 v a₂ (λ q. omega arith) g in
-    let p₂ = not-given (namesFit (h .names)) 4 8 v a₃ (λ q. omega arith) (p₁ .1) in
-    let p₃ = not-given (every (isLent h) (e .strings)) 7 8 v a₄ (λ q. omega arith) (p₂ .1) in
-    let p₄ = not-given (statesFit e h) 13 8 v a₅ (λ q. omega arith) (p₃ .1) in
-    let p₅ = not-given (leb size fileMost) 9 8 v a₆ (λ q. omega arith) (p₄ .1) in
-    last size (leb size room) (leb-true size fileMost (p₅ .0)) (p₅ .1)
+abbrev Bounded : {A : Type 0} → Answer A → Type 0
+Bounded a = (n : ℕ) → refused 8 (n ∷ []) ≡ a → n ≤ fileMost
+
+-- 8 is not given
+abbrev NoRoom : {A : Type 0} → Answer A → Type 0
+NoRoom a = (v : List ℕ) → refused 8 v ≡ a → ⊥
+
+no-room-if : {A : Type 0} (t : Bool) (k : ℕ) (a : Answer A) → (_≡_ {A = ℕ} 8 k → ⊥) → NoRoom a → NoRoom (if not t then refused k [] else a)
+no-room-if true k a h r = r
+no-room-if false k a h r = λ v e. h (cc)
+
+no-room-gives : {A : Type 0} (x : A) → NoRoom (gives x)
+no-room-gives x v e = let z : _≡_ {A = ℕ} 0 1 = cc in omega arith
+
+bounded-if : {A : Type 0} (t : Bool) (k : ℕ) (a : Answer A) → (_≡_ {A = ℕ} 8 k → ⊥) → (t ≡ true → Bounded a) → Bounded (if not t then refused k [] else a)
+bounded-if true k a h r = r refl
+bounded-if false k a h r = λ n e. absurd (h (cc))
+
+bounded-then : {A B : Type 0} (a : Answer A) (b : Answer B) → NoRoom a → Bounded b → Bounded (andThen a b)
+bounded-then (refused k v) b r c n e = absurd (r (n ∷ []) (cc))
+bounded-then (gives x) b r c n e = c n e
+
+bounded-room : {A : Type 0} (size room : ℕ) (x : A) → size ≤ fileMost → Bounded (if not (leb size room) then refused 8 (size ∷ []) else gives x)
+bounded-room size room x l = by-test (leb size room)
   where
-    last : (size : ℕ) (t : Bool) → size ≤ fileMost → refused 8 (n ∷ []) ≡ (if not t then refused 8 (size ∷ []) else gives (encode (entryOf e h))) → n ≤ fileMost
-    last size true l q = absurd (let z : _≡_ {A = ℕ} 0 1 = cc in (let y : ⊥ = omega arith in y))
-    last size false l q = let z : n ≡ size = cc in omega arith
+    by-test : (t : Bool) → Bounded (if not t then refused 8 (size ∷ []) else gives x)
+    by-test true n e = absurd (no-room-gives x (n ∷ []) e)
+    by-test false n e = let z : n ≡ size = cc in omega arith
+
+room-most : (e : Edition) (h : Handed) (room : ℕ) → Bounded (writing e h room)
+unfolding writing
+room-most e h room =
+    let size : ℕ = length (encode (entryOf e h)) in
+    bounded-if (enoughStates e h) 3 _ (λ q. omega arith) (λ _.
+    bounded-if (namesFit (h .names)) 4 _ (λ q. omega arith) (λ _.
+    bounded-if (every (isLent h) (e .strings)) 7 _ (λ q. omega arith) (λ _.
+    bounded-if (statesFit e h) 13 _ (λ q. omega arith) (λ _.
+    bounded-if (leb size fileMost) 9 _ (λ q. omega arith) (λ l.
+    bounded-room size room _ (leb-true size fileMost l))))))
 
 pub written-within : (e : Edition) (h : Handed) (room : ℕ) (w : Written) → saysWritten w ≡ mapAnswer length (writing e h room) → WrittenWithin w
 written-within e h room (W.File n) g =
@@ -169,6 +191,42 @@ written-within e h room W.Lent g = tt
 written-within e h room W.Limit g = tt
 written-within e h room W.Size g = tt
 written-within e h room (W.Room n) g = room-most e h room n (map-refused 8 (n ∷ []) (writing e h room) g)
+
+-- ---- merging
+
+reading-no-room : (f : List ℕ) → NoRoom (reading f)
+unfolding reading
+reading-no-room f =
+    let s : Sizes = sizesOf f in
+    no-room-if (leb headerSize (length f) && leb (length f) fileMost) 1 _ (λ q. omega arith)
+    (no-room-if (eqb (word 2 f 0) magic) 2 _ (λ q. omega arith)
+    (no-room-if (okCounts s) 3 _ (λ q. omega arith)
+    (no-room-if (eqb (length f) (sizeOf s)) 1 _ (λ q. omega arith)
+    (no-room-if (okNames f s) 4 _ (λ q. omega arith)
+    (no-room-if (okBooleans f s && okPad f s) 5 _ (λ q. omega arith)
+    (no-room-if (okNumbers f s) 6 _ (λ q. omega arith)
+    (no-room-if (okStrings f s) 7 _ (λ q. omega arith) (no-room-gives s))))))))
+
+merge-room-most : (e : Edition) (a b : List ℕ) (room : ℕ) → Bounded (merging e a b room)
+unfolding merging
+merge-room-most e a b room =
+    let size : ℕ = length (encode (merged e a b)) in
+    bounded-if (okEdition e) 3 _ (λ q. omega arith) (λ _.
+    bounded-then (reading a) _ (reading-no-room a)
+    (bounded-then (reading b) _ (reading-no-room b)
+    (bounded-if (leb size fileMost) 9 _ (λ q. omega arith) (λ l.
+    bounded-room size room _ (leb-true size fileMost l)))))
+
+pub merged-within : (e : Edition) (a b : List ℕ) (room : ℕ) (m : Merged) → saysMerged m ≡ mapAnswer length (merging e a b room) → MergedWithin m
+merged-within e a b room (G.File n) g =
+    let p = map-gives n (merging e a b room) g in
+    let q = merged-only-if e a b room (p .0) (p .1 .1) in
+    let l : n ≡ length (encode (merged e a b)) = p .1 .0 ∙ ap length (q .1 .1) in
+    let m = q .0 .size in
+    omega arith
+merged-within e a b room (G.Refused r) g = tt
+merged-within e a b room G.Size g = tt
+merged-within e a b room (G.Room n) g = merge-room-most e a b room n (map-refused 8 (n ∷ []) (merging e a b room) g)
 
 -- a length is the same number before and after the file is counted
 pub numbered-length : (a : Answer (List ℕ)) → numbered (λ n. n) (mapAnswer length a) ≡ numbered length a

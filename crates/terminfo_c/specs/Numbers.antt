@@ -18,10 +18,13 @@ use Rattle.entry.specs.declared.StringState.{StringState}
 use Rattle.entry.specs.declared.StringState.the-variants as S
 use Rattle.entry.specs.declared.Written.{Written}
 use Rattle.entry.specs.declared.Written.the-variants as W
+use Rattle.entry.specs.declared.Merged.{Merged}
+use Rattle.entry.specs.declared.Merged.the-variants as G
 use Rattle.entry.specs.Limits.{fileMost}
 use Rattle.entry.specs.Answer.{Answer, refused, gives, isGiven, bufferAfter}
 use Rattle.entry.specs.Asking.{Opening, opening, askingBoolean, askingNumber, askingString}
 use Rattle.entry.specs.Writing.{Handed, writing}
+use Rattle.entry.specs.Merging.{merging}
 use Rattle.names.specs.Naming.{naming}
 
 abbrev pub edition : ℕ → ℕ → ℕ → Edition
@@ -103,6 +106,11 @@ pub record WrittenNumber (e : Edition) (h : Handed) (before after : List ℕ) (r
   pub number : r ≡ numbered length (writing e h (length before))
   pub buffer : after ≡ bufferAfter before (writing e h (length before))
 
+-- the number and the buffer that merging leaves
+pub record MergedNumber (e : Edition) (a b : List ℕ) (before after : List ℕ) (r : ℕ) : Type 0 where
+  pub number : r ≡ numbered length (merging e a b (length before))
+  pub buffer : after ≡ bufferAfter before (merging e a b (length before))
+
 -- ---- what keeps the numbers below their bits: parts lie in a file, and so does what is written
 
 abbrev pub PartWithin : Part → Type 0
@@ -126,3 +134,9 @@ WrittenWithin W.Lent = Unit {0}
 WrittenWithin W.Limit = Unit {0}
 WrittenWithin W.Size = Unit {0}
 WrittenWithin (W.Room n) = n ≤ fileMost
+
+abbrev pub MergedWithin : Merged → Type 0
+MergedWithin (G.File n) = n ≤ fileMost
+MergedWithin (G.Refused r) = Unit {0}
+MergedWithin G.Size = Unit {0}
+MergedWithin (G.Room n) = n ≤ fileMost

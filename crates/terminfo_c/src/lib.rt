@@ -5,8 +5,7 @@ ghost use mathlib.Core.Path.{_≡_};
 ghost use Rattle.entry.specs.Answer.{mapAnswer};
 ghost use Rattle.entry.specs.Asking.{opening, askingNames};
 ghost use Rattle.writer.specs.Handed.{handed};
-ghost use Rattle.terminfo_c.specs.Numbers.{edition, numbered, none, partCode, arrayAfter, openingArray, booleanNumber, numberNumber, stringNumber, asking8, namingBy, WrittenNumber};
-
+ghost use Rattle.terminfo_c.specs.Numbers.{edition, numbered, none, partCode, arrayAfter, openingArray, booleanNumber, numberNumber, stringNumber, asking8, namingBy, WrittenNumber, MergedNumber};
 use caps::Edition;
 use caps::Kind;
 use caps::Place;
@@ -17,68 +16,145 @@ mod numbers;
 
 // Opens a file: 0, with the array filled, or the refusal.
 #[no_mangle]
-pub extern "C" fn terminfo_open(file: &[u8], booleans: usize, numbers: usize, strings: usize, tables: &mut [u64; 10]) -> u64
+pub extern "C" fn terminfo_open(
+    file: &[u8],
+    booleans: usize,
+    numbers: usize,
+    strings: usize,
+    tables: &mut [u64; 10],
+) -> u64
     ensures { λ r. ⌜ (r ≡ numbered none (opening (edition booleans numbers strings) (now (file .entry)))) × (now (tables .exit) ≡ arrayAfter (now (tables .entry)) (mapAnswer openingArray (opening (edition booleans numbers strings) (now (file .entry))))) ⌝ }
 {
-    match read::open(file, Edition { booleans, numbers, strings }) {
+    match read::open(
+        file,
+        Edition {
+            booleans,
+            numbers,
+            strings,
+        },
+    ) {
         Opened::Entry(t, b) => {
             *tables = numbers::opening_array(t, b);
             0
         }
-        Opened::Edition => 3 * numbers::TOP,
         Opened::Refused(why) => numbers::file_number(why) * numbers::TOP,
     }
 }
 
 // The names' part, without their NUL.
 #[no_mangle]
-pub extern "C" fn terminfo_names(file: &[u8], booleans: usize, numbers: usize, strings: usize) -> u64
+pub extern "C" fn terminfo_names(
+    file: &[u8],
+    booleans: usize,
+    numbers: usize,
+    strings: usize,
+) -> u64
     ensures { λ r. ⌜ r ≡ numbered partCode (askingNames (edition booleans numbers strings) (now (file .entry))) ⌝ }
 {
-    let n = states::names(file, Edition { booleans, numbers, strings });
+    let n = states::names(
+        file,
+        Edition {
+            booleans,
+            numbers,
+            strings,
+        },
+    );
     numbers::names_number(n)
 }
 
 // The state of the boolean at a place.
 #[no_mangle]
-pub extern "C" fn terminfo_boolean(file: &[u8], booleans: usize, numbers: usize, strings: usize, place: usize) -> u64
+pub extern "C" fn terminfo_boolean(
+    file: &[u8],
+    booleans: usize,
+    numbers: usize,
+    strings: usize,
+    place: usize,
+) -> u64
     ensures { λ r. ⌜ r ≡ booleanNumber booleans numbers strings (now (file .entry)) place ⌝ }
 {
-    let s = states::boolean(file, Edition { booleans, numbers, strings }, Place(place));
+    let s = states::boolean(
+        file,
+        Edition {
+            booleans,
+            numbers,
+            strings,
+        },
+        Place(place),
+    );
     numbers::boolean_number(s)
 }
 
 // The state of the number at a place.
 #[no_mangle]
-pub extern "C" fn terminfo_number(file: &[u8], booleans: usize, numbers: usize, strings: usize, place: usize) -> u64
+pub extern "C" fn terminfo_number(
+    file: &[u8],
+    booleans: usize,
+    numbers: usize,
+    strings: usize,
+    place: usize,
+) -> u64
     ensures { λ r. ⌜ r ≡ numberNumber booleans numbers strings (now (file .entry)) place ⌝ }
 {
-    let s = states::number(file, Edition { booleans, numbers, strings }, Place(place));
+    let s = states::number(
+        file,
+        Edition {
+            booleans,
+            numbers,
+            strings,
+        },
+        Place(place),
+    );
     numbers::number_number(s)
 }
 
 // The state of the string at a place.
 #[no_mangle]
-pub extern "C" fn terminfo_string(file: &[u8], booleans: usize, numbers: usize, strings: usize, place: usize) -> u64
+pub extern "C" fn terminfo_string(
+    file: &[u8],
+    booleans: usize,
+    numbers: usize,
+    strings: usize,
+    place: usize,
+) -> u64
     ensures { λ r. ⌜ r ≡ stringNumber booleans numbers strings (now (file .entry)) place ⌝ }
 {
-    let s = states::string(file, Edition { booleans, numbers, strings }, Place(place));
+    let s = states::string(
+        file,
+        Edition {
+            booleans,
+            numbers,
+            strings,
+        },
+        Place(place),
+    );
     numbers::string_number(s)
 }
 
 // Eight places at once: 0, with the answers stored, or 17 where opening would refuse.
 #[no_mangle]
-pub extern "C" fn terminfo_ask(file: &[u8], booleans: usize, numbers: usize, strings: usize, kinds: &[u8; 8], places: &[usize; 8], answers: &mut [u64; 8]) -> u64
+pub extern "C" fn terminfo_ask(
+    file: &[u8],
+    booleans: usize,
+    numbers: usize,
+    strings: usize,
+    kinds: &[u8; 8],
+    places: &[usize; 8],
+    answers: &mut [u64; 8],
+) -> u64
     ensures { λ r. ⌜ (r ≡ numbered none (asking8 (edition booleans numbers strings) (now (file .entry)) (now (kinds .entry)) (now (places .entry)))) × (now (answers .exit) ≡ arrayAfter (now (answers .entry)) (asking8 (edition booleans numbers strings) (now (file .entry)) (now (kinds .entry)) (now (places .entry)))) ⌝ }
 {
-    let e = Edition { booleans, numbers, strings };
+    let e = Edition {
+        booleans,
+        numbers,
+        strings,
+    };
     let o = read::open(file, e);
     match o {
         Opened::Entry(_, _) => {
             *answers = numbers::asked_numbers(file, e, o, kinds, places);
             0
         }
-        Opened::Edition => 17 * numbers::TOP,
         Opened::Refused(_) => 17 * numbers::TOP,
     }
 }
@@ -102,7 +178,11 @@ pub extern "C" fn terminfo_write(
     ensures { λ r. ⌜ WrittenNumber (edition booleans numbers strings) (handed (now (names .entry)) (now («boolean_kinds» .entry)) (now («number_kinds» .entry)) (now («number_values» .entry)) (now («string_kinds» .entry)) (now («string_starts» .entry)) (now («string_lengths» .entry)) (now (lent .entry))) (now (buffer .entry)) (now (buffer .exit)) r ⌝ }
 {
     let w = writer::write(
-        Edition { booleans, numbers, strings },
+        Edition {
+            booleans,
+            numbers,
+            strings,
+        },
         names,
         boolean_kinds,
         number_kinds,
@@ -114,6 +194,31 @@ pub extern "C" fn terminfo_write(
         buffer,
     );
     numbers::written_number(w)
+}
+
+// Merges the first file over the second: the merged file's length, or the refusal.
+#[no_mangle]
+pub extern "C" fn terminfo_merge(
+    first: &[u8],
+    second: &[u8],
+    booleans: usize,
+    numbers: usize,
+    strings: usize,
+    buffer: &mut [u8],
+) -> u64
+    ensures { λ r. ⌜ MergedNumber (edition booleans numbers strings) (now (first .entry)) (now (second .entry)) (now (buffer .entry)) (now (buffer .exit)) r ⌝ }
+{
+    let m = merge::merge(
+        first,
+        second,
+        Edition {
+            booleans,
+            numbers,
+            strings,
+        },
+        buffer,
+    );
+    numbers::merged_number(m)
 }
 
 // The name at a place of a kind's list in the first edition: its bytes, low byte first.

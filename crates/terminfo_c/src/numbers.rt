@@ -4,15 +4,15 @@ ghost use Prim.Native.Nat.{_≤_};
 ghost use lib.ListN.{getD};
 ghost use Rattle.base.specs.Tabulate.{tabulate};
 ghost use Rattle.entry.specs.Asking.{opening};
-ghost use Rattle.entry.specs.Says.{saysOpened, saysNames, saysBoolean, saysNumber, saysString, saysWritten, fileNumber};
+ghost use Rattle.entry.specs.Says.{saysOpened, saysNames, saysBoolean, saysNumber, saysString, saysWritten, saysMerged, fileNumber};
 ghost use Rattle.names.specs.Naming.{saysName};
-ghost use Rattle.terminfo_c.specs.Numbers.{numbered, none, booleanCode, numberCode, stringCode, partCode, openingArray, askedCode, NamesWithin, StringWithin, WrittenWithin};
-
+ghost use Rattle.terminfo_c.specs.Numbers.{numbered, none, booleanCode, numberCode, stringCode, partCode, openingArray, askedCode, NamesWithin, StringWithin, WrittenWithin, MergedWithin};
 use caps::Edition;
 use caps::Place;
 use entry::Beyond;
 use entry::BooleanState;
 use entry::FileRefusal;
+use entry::Merged;
 use entry::Names;
 use entry::NumberState;
 use entry::Opened;
@@ -120,6 +120,18 @@ pub fn written_number(w: Written) -> u64
     }
 }
 
+pub fn merged_number(m: Merged) -> u64
+    requires { ⌜ MergedWithin m ⌝ }
+    ensures { λ r. ⌜ r ≡ numbered (λ n. n) (saysMerged m) ⌝ }
+{
+    match m {
+        Merged::File(n) => n as u64,
+        Merged::Refused(why) => file_number(why) * TOP,
+        Merged::Size => 9 * TOP,
+        Merged::Room(n) => 8 * TOP + n as u64,
+    }
+}
+
 pub fn name_number(n: Name) -> u64
     ensures { λ r. ⌜ r ≡ numbered (λ w. w) (saysName n) ⌝ }
 {
@@ -135,19 +147,25 @@ fn asked_number(file: &[u8], e: Edition, o: Opened, kind: u8, place: usize) -> u
     ensures { λ r. ⌜ r ≡ askedCode e (now (file .entry)) kind place ⌝ }
 {
     if kind == 0 {
-        return boolean_number(states::opened::boolean_by(file, e, o, Place(place)));
+        return boolean_number(states::opened::boolean_if_opened(file, e, o, Place(place)));
     }
     if kind == 1 {
-        return number_number(states::opened::number_by(file, e, o, Place(place)));
+        return number_number(states::opened::number_if_opened(file, e, o, Place(place)));
     }
     if kind == 2 {
-        return string_number(states::opened::string_by(file, e, o, Place(place)));
+        return string_number(states::opened::string_if_opened(file, e, o, Place(place)));
     }
     17 * TOP
 }
 
 // The states at eight places.
-pub fn asked_numbers(file: &[u8], e: Edition, o: Opened, kinds: &[u8; 8], places: &[usize; 8]) -> [u64; 8]
+pub fn asked_numbers(
+    file: &[u8],
+    e: Edition,
+    o: Opened,
+    kinds: &[u8; 8],
+    places: &[usize; 8],
+) -> [u64; 8]
     requires { ⌜ saysOpened o ≡ opening e (now file) ⌝ }
     ensures { λ r. ⌜ r ≡ tabulate (λ i. askedCode e (now (file .entry)) (getD (now (kinds .entry)) i 0) (getD (now (places .entry)) i 0)) 8 ⌝ }
 {

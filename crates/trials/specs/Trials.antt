@@ -30,7 +30,7 @@ first = record { booleans = 21; numbers = 8; strings = 138 }
 abbrev pub named : ℕ → List ℕ → List ℕ
 named numbers rest = 26 ∷ 1 ∷ 2 ∷ 0 ∷ 0 ∷ 0 ∷ numbers ∷ 0 ∷ 0 ∷ 0 ∷ 0 ∷ 0 ∷ 97 ∷ 0 ∷ rest
 
--- a refusal's number alone; a state as its kind (0 absent, 1 present, 2 cancelled) and its content
+-- a refusal's number; or 0, then a state's kind (0 absent, 1 present, 2 cancelled) and its content
 abbrev pub told : Answer (State ℕ) → List ℕ
 told (refused n v) = n ∷ []
 told (gives absent) = 0 ∷ 0 ∷ []

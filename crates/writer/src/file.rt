@@ -10,9 +10,8 @@ ghost use Rattle.put.specs.Table.{total};
 ghost use Rattle.writer.specs.Handed.{handed, frontHanded};
 ghost use Rattle.writer.specs.File.{sizesHanded, head, slots, front, HeadFits, SlotsFit, FrontFits, Sure};
 use caps::Edition;
+use entry::HEADER_SIZE;
 use entry::Sizes;
-
-const HEADER_SIZE: usize = 12;
 
 // The header's sizes for what is handed over.
 pub fn sizes(e: Edition, names: &[u8], string_kinds: &[u8], string_lengths: &[usize]) -> Sizes

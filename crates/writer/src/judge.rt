@@ -11,19 +11,16 @@ ghost use Rattle.entry.specs.Writing.{stateOf, isKind, enoughStates, namesFit, 
 ghost use Rattle.put.specs.Table.{stringOf};
 ghost use Rattle.writer.specs.Handed.{booleansHanded, numbersHanded, stringsHanded, statesHanded};
 use caps::Edition;
+use entry::CANCELLED;
+use entry::CONTENT_MOST;
+use entry::PRESENT;
 
+// The writer's names, without a NUL, and its largest number.
 const NAMES_LEAST: usize = 1;
 
 const NAMES_MOST: usize = 127;
 
-const CONTENT_MOST: usize = 1000;
-
 const NUMBER_MOST: u32 = 32767;
-
-// The kinds of state are 0 absent, 1 present, 2 cancelled.
-const PRESENT: u8 = 1;
-
-const KIND_MOST: u8 = 2;
 
 fn least(a: usize, b: usize) -> usize
     ensures { λ r. ⌜ r ≡ min a b ⌝ }
@@ -124,7 +121,7 @@ fn find_boolean_past(kinds: &[u8], n: usize) -> usize
 {
     let mut i = 0;
     while i < n {
-        if KIND_MOST < kinds[i] {
+        if CANCELLED < kinds[i] {
             return i;
         }
         i += 1;
@@ -135,7 +132,7 @@ fn find_boolean_past(kinds: &[u8], n: usize) -> usize
 fn number_fits(kind: u8, value: u32) -> bool
     ensures { λ r. ⌜ r ≡ (isKind kind && numberFits (stateOf kind value)) ⌝ }
 {
-    if KIND_MOST < kind {
+    if CANCELLED < kind {
         return false;
     }
     if kind != PRESENT {
@@ -163,7 +160,7 @@ fn string_fits(kind: u8, start: usize, size: usize, lent: &[u8]) -> bool
     requires { ⌜ (kind ≡ 1 → start + size ≤ length (now lent)) ⌝ }
     ensures { λ r. ⌜ r ≡ (isKind kind && contentFits (stringOf kind start size (now (lent .entry)))) ⌝ }
 {
-    if KIND_MOST < kind {
+    if CANCELLED < kind {
         return false;
     }
     if kind != PRESENT {

@@ -8,12 +8,11 @@ ghost use Rattle.entry.specs.Says.{saysWritten};
 ghost use Rattle.writer.specs.Handed.{handed};
 ghost use Rattle.writer.specs.Answers.{Judged, Wrote};
 use caps::Edition;
+use entry::FILE_MOST;
 use entry::Written;
 
 pub mod file;
 pub mod judge;
-
-const FILE_MOST: usize = 4096;
 
 // Writes what is handed over, if its states are within the limits and the file fits. There are states enough, the names fit, and
 // the strings lie in what is lent.

@@ -18,17 +18,11 @@ names-opened-requires c κs = record { beyond = c .before .t .given .0 .1 .0; gi
 enum-told : tie.Need-enum-told
 enum-told c = search needs
 
-enum-told-2 : tie.Need-enum-told-2
-enum-told-2 c = search needs
-
 returns : tie.Need-returns
 returns c = search needs
 
 returns-2 : tie.Need-returns-2
 returns-2 c = asking-unopened _ _ _ _ _ _ (ap saysOpened (sym (c .enum-told .given .1)) ∙ c .before .before .«open» .ensures)
-
-returns-3 : tie.Need-returns-3
-returns-3 c = asking-unopened _ _ _ _ _ _ (ap saysOpened (sym (c .enum-told2 .given .1)) ∙ c .before .before .«open» .ensures)
 
 pub names-spec : {M : Type 1} → statement M
 names-spec =
@@ -38,7 +32,5 @@ names-spec =
     enum-known-t
     names-opened-requires
     enum-told
-    enum-told-2
     returns
-    returns-2
-    returns-3)
+    returns-2)

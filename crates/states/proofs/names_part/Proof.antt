@@ -1,14 +1,11 @@
 -- `states::names_part` meets its contract: names that are given lie in the file.
-use denote.Ref.{now}
-use mathlib.Core.Path.{sym, ap, _∙_}
+use mathlib.Core.Path.{refl, sym, ap, _∙_}
 use native.Mathlib.Omega.{arith}
 use borrow.Author.Needs.{needs}
-use Rattle.entry.specs.declared.Part.{Part}
-use Rattle.entry.specs.Answer.{Answer}
 use Rattle.entry.specs.Reading.{bytesOf}
 use Rattle.entry.specs.Asking.{namesGiven}
 use Rattle.entry.specs.Says.{saysNames}
-use Rattle.states.proofs.Laws.{names-inside, bytes-between}
+use Rattle.states.proofs.Laws.{names-inside, bytes-between, part-place}
 use Rattle.states.proofs.names_part.Statement.{statement}
 use Rattle.states.proofs.names_part.Tie as tie
 
@@ -46,10 +43,14 @@ part-result-end-2 : tie.Need-part-result-end-2
 part-result-end-2 c = search needs
 
 returns : tie.Need-returns
-returns c = bytes-between _ (c .before .before .before .p .given .0 .0) _ (ap namesGiven (ap saysNames (sym (c .before .before .before .p .given .1)) ∙ c .before .before .before .before .before .names .ensures))
+returns c =
+    let e = ap namesGiven (ap saysNames (sym (c .before .before .before .p .given .1)) ∙ c .before .before .before .before .before .names .ensures) in
+    record { block = refl; place = part-place _ (c .before .before .before .p .given .0 .0) _ e; bytes = bytes-between _ (c .before .before .before .p .given .0 .0) _ e }
 
 returns-2 : tie.Need-returns-2
-returns-2 c = ap (λ (a : Answer Part). bytesOf (now (c .before .before .before .before .before .args .file)) (namesGiven a)) (ap saysNames (sym (c .before .enum-told .given .1)) ∙ c .before .before .before .names .ensures)
+returns-2 c =
+    let e = ap namesGiven (ap saysNames (sym (c .before .enum-told .given .1)) ∙ c .before .before .before .names .ensures) in
+    record { block = refl; place = part-place _ (record { start = 0; length = 0 }) _ e; bytes = ap (bytesOf _) e }
 
 pub names-part-spec : {M : Type 1} → statement M
 names-part-spec =

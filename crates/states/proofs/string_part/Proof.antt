@@ -1,15 +1,11 @@
 -- `states::string_part` meets its contract: a content that is given lies in the file.
-use denote.Ref.{now}
-use mathlib.Core.Path.{sym, ap, _∙_}
+use mathlib.Core.Path.{refl, sym, ap, _∙_}
 use native.Mathlib.Omega.{arith}
 use borrow.Author.Needs.{needs}
-use Rattle.entry.specs.declared.Part.{Part}
-use Rattle.entry.specs.State.{State}
-use Rattle.entry.specs.Answer.{Answer}
 use Rattle.entry.specs.Reading.{bytesOf}
 use Rattle.entry.specs.Asking.{partGiven}
 use Rattle.entry.specs.Says.{saysString}
-use Rattle.states.proofs.Laws.{string-inside, bytes-between}
+use Rattle.states.proofs.Laws.{string-inside, bytes-between, part-place}
 use Rattle.states.proofs.string_part.Statement.{statement}
 use Rattle.states.proofs.string_part.Tie as tie
 
@@ -21,7 +17,7 @@ enum-known-p c = search needs
 
 add-end : tie.Need-add-end
 add-end c =
-    let i = string-inside _ _ (c .before .before .before .before .before .before .args .place) (c .before .before .p .given .0 .0) (ap saysString (sym (c .before .before .p .given .1)) ∙ c .before .before .before .before .string .ensures) in
+    let i = string-inside _ _ _ (c .before .before .p .given .0 .0) (ap saysString (sym (c .before .before .p .given .1)) ∙ c .before .before .before .before .string .ensures) in
     let l = c .before .before .before .before .before .before .good .0 .0 in
     omega arith
 
@@ -32,7 +28,7 @@ part-result-start : tie.Need-part-result-start
 part-result-start c = search needs
 
 part-result-end : tie.Need-part-result-end
-part-result-end c = string-inside _ _ (c .before .before .before .before .before .before .args .place) (c .before .before .p .given .0 .0) (ap saysString (sym (c .before .before .p .given .1)) ∙ c .before .before .before .before .string .ensures)
+part-result-end c = string-inside _ _ _ (c .before .before .p .given .0 .0) (ap saysString (sym (c .before .before .p .given .1)) ∙ c .before .before .before .before .string .ensures)
 
 enum-told : tie.Need-enum-told
 enum-told c = search needs
@@ -71,16 +67,24 @@ part-result-end-4 : tie.Need-part-result-end-4
 part-result-end-4 c = search needs
 
 returns : tie.Need-returns
-returns c = bytes-between _ (c .before .before .before .p .given .0 .0) _ (ap partGiven (ap saysString (sym (c .before .before .before .p .given .1)) ∙ c .before .before .before .before .before .string .ensures))
+returns c =
+    let e = ap partGiven (ap saysString (sym (c .before .before .before .p .given .1)) ∙ c .before .before .before .before .before .string .ensures) in
+    record { block = refl; place = part-place _ (c .before .before .before .p .given .0 .0) _ e; bytes = bytes-between _ (c .before .before .before .p .given .0 .0) _ e }
 
 returns-2 : tie.Need-returns-2
-returns-2 c = ap (λ (a : Answer (State Part)). bytesOf (now (c .before .before .before .before .before .args .file)) (partGiven a)) (ap saysString (sym (c .before .enum-told .given .1)) ∙ c .before .before .before .string .ensures)
+returns-2 c =
+    let e = ap partGiven (ap saysString (sym (c .before .enum-told .given .1)) ∙ c .before .before .before .string .ensures) in
+    record { block = refl; place = part-place _ (record { start = 0; length = 0 }) _ e; bytes = ap (bytesOf _) e }
 
 returns-3 : tie.Need-returns-3
-returns-3 c = ap (λ (a : Answer (State Part)). bytesOf (now (c .before .before .before .before .before .args .file)) (partGiven a)) (ap saysString (sym (c .before .enum-told2 .given .1)) ∙ c .before .before .before .string .ensures)
+returns-3 c =
+    let e = ap partGiven (ap saysString (sym (c .before .enum-told2 .given .1)) ∙ c .before .before .before .string .ensures) in
+    record { block = refl; place = part-place _ (record { start = 0; length = 0 }) _ e; bytes = ap (bytesOf _) e }
 
 returns-4 : tie.Need-returns-4
-returns-4 c = ap (λ (a : Answer (State Part)). bytesOf (now (c .before .before .before .before .before .args .file)) (partGiven a)) (ap saysString (sym (c .before .enum-told3 .given .1)) ∙ c .before .before .before .string .ensures)
+returns-4 c =
+    let e = ap partGiven (ap saysString (sym (c .before .enum-told3 .given .1)) ∙ c .before .before .before .string .ensures) in
+    record { block = refl; place = part-place _ (record { start = 0; length = 0 }) _ e; bytes = ap (bytesOf _) e }
 
 pub string-part-spec : {M : Type 1} → statement M
 string-part-spec =

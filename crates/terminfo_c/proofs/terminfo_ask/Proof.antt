@@ -23,12 +23,6 @@ enum-told-2 c = search needs
 mul-result : tie.Need-mul-result
 mul-result c = search needs
 
-enum-told-3 : tie.Need-enum-told-3
-enum-told-3 c = search needs
-
-mul-result-2 : tie.Need-mul-result-2
-mul-result-2 c = search needs
-
 returns : tie.Need-returns
 returns c =
     let a = c .before .before .before .before .before .args in
@@ -37,10 +31,7 @@ returns c =
     (p .0, c .asked-numbers .ensures ∙ p .1)
 
 returns-2 : tie.Need-returns-2
-returns-2 c = ask-refused _ _ _ _ _ 3 [] (ap saysOpened (sym (c .enum-told2 .given .1)) ∙ c .before .before .«open» .ensures)
-
-returns-3 : tie.Need-returns-3
-returns-3 c = ask-refused _ _ _ _ _ _ [] (ap saysOpened (sym (c .enum-told3 .given .1)) ∙ c .before .before .«open» .ensures)
+returns-2 c = ask-refused _ _ _ _ _ _ [] (ap saysOpened (sym (c .enum-told2 .given .1)) ∙ c .before .before .«open» .ensures)
 
 pub terminfo-ask-spec : {M : Type 1} → statement M
 terminfo-ask-spec =
@@ -51,8 +42,5 @@ terminfo-ask-spec =
     asked-numbers-requires
     enum-told-2
     mul-result
-    enum-told-3
-    mul-result-2
     returns
-    returns-2
-    returns-3)
+    returns-2)

@@ -18,20 +18,14 @@ enum-known-t c = search needs
 opening-array-requires : tie.Need-opening-array-requires
 opening-array-requires c κs = search needs
 
-enum-told : tie.Need-enum-told
-enum-told c = search needs
-
-mul-result : tie.Need-mul-result
-mul-result c = search needs
-
 enum-known-why : tie.Need-enum-known-why
 enum-known-why c = search needs
 
 file-number-requires : tie.Need-file-number-requires
 file-number-requires c κs = search needs
 
-mul-result-2 : tie.Need-mul-result-2
-mul-result-2 c =
+mul-result : tie.Need-mul-result
+mul-result c =
     let h = c .file-number .ensures .1 in
     omega arith
 
@@ -41,10 +35,7 @@ returns c =
     (p .0, c .opening-array .ensures ∙ p .1)
 
 returns-2 : tie.Need-returns-2
-returns-2 c = open-refused _ _ 3 (ap saysOpened (sym (c .enum-told .given .1)) ∙ c .before .before .«open» .ensures)
-
-returns-3 : tie.Need-returns-3
-returns-3 c =
+returns-2 c =
     let p = open-refused _ (now (c .before .before .before .before .before .before .args .tables)) _ (ap saysOpened (sym (c .before .before .why .given .1)) ∙ c .before .before .before .before .«open» .ensures) in
     (ap (λ (n : ℕ). n * 2 ^ 56) (c .file-number .ensures .0) ∙ p .0, p .1)
 
@@ -55,11 +46,8 @@ terminfo-open-spec =
     open-requires
     enum-known-t
     opening-array-requires
-    enum-told
-    mul-result
     enum-known-why
     file-number-requires
-    mul-result-2
+    mul-result
     returns
-    returns-2
-    returns-3)
+    returns-2)

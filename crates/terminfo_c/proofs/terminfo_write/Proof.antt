@@ -19,7 +19,7 @@ returns : tie.Need-returns
 returns c =
     record {
       number = c .written-number .ensures ∙ ap (numbered (λ n. n)) (c .before .before .before .write .ensures .0) ∙ numbered-length _;
-      buffer = c .before .before .before .write .ensures .1
+      buffer = c .before .before .before .write .ensures .1;
     }
 
 pub terminfo-write-spec : {M : Type 1} → statement M

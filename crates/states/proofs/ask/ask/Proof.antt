@@ -31,8 +31,8 @@ mul-q c = search needs
 array-copy-out-q : tie.Need-array-copy-out-q Inv-loop μ-loop
 array-copy-out-q c = search needs
 
-reply-by-requires : tie.Need-reply-by-requires Inv-loop μ-loop
-reply-by-requires c κs = c .before .before .before .«open» .ensures
+reply-if-opened-requires : tie.Need-reply-if-opened-requires Inv-loop μ-loop
+reply-if-opened-requires c κs = c .before .before .before .«open» .ensures
 
 mul-replies : tie.Need-mul-replies Inv-loop μ-loop
 mul-replies c = search needs
@@ -53,7 +53,7 @@ loop-again c =
     let v = c .before .before .before .loop .inv in (
       search needs,
       simp length-set (v .1),
-      map-more saysReply (replying (a .edition) (now (a .file))) (c .before .before .before .loop .replies) (a .t3) (c .before .before .before .loop .i) (c .reply-by .result) Q.Nothing (omega arith) (omega arith) (c .reply-by .ensures) (v .2),
+      map-more saysReply (replying (a .edition) (now (a .file))) (c .before .before .before .loop .replies) (a .t3) (c .before .before .before .loop .i) (c .reply-if-opened .result) Q.Nothing (omega arith) (omega arith) (c .reply-if-opened .ensures) (v .2),
     )
 
 returns : tie.Need-returns Inv-loop μ-loop
@@ -73,7 +73,7 @@ ask-spec =
     loop-holds
     mul-q
     array-copy-out-q
-    reply-by-requires
+    reply-if-opened-requires
     mul-replies
     array-set-from-replies
     add-i

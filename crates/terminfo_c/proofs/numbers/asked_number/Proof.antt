@@ -6,32 +6,32 @@ use borrow.Author.Needs.{needs}
 use Rattle.terminfo_c.proofs.numbers.asked_number.Statement.{statement}
 use Rattle.terminfo_c.proofs.numbers.asked_number.Tie as tie
 
-boolean-by-requires : tie.Need-boolean-by-requires
-boolean-by-requires c κs = search needs
+boolean-if-opened-requires : tie.Need-boolean-if-opened-requires
+boolean-if-opened-requires c κs = search needs
 
 boolean-number-requires : tie.Need-boolean-number-requires
 boolean-number-requires c κs = search needs
 
 returns : tie.Need-returns
-returns c = c .boolean-number .ensures ∙ ap (numbered booleanCode) (c .before .boolean-by .ensures) ∙ asked-boolean _ _ _ _ (c .before .before .if1 .taken)
+returns c = c .boolean-number .ensures ∙ ap (numbered booleanCode) (c .before .boolean-if-opened .ensures) ∙ asked-boolean _ _ _ _ (c .before .before .if1 .taken)
 
-number-by-requires : tie.Need-number-by-requires
-number-by-requires c κs = search needs
+number-if-opened-requires : tie.Need-number-if-opened-requires
+number-if-opened-requires c κs = search needs
 
 number-number-requires : tie.Need-number-number-requires
 number-number-requires c κs = search needs
 
 returns-2 : tie.Need-returns-2
-returns-2 c = c .number-number .ensures ∙ ap (numbered numberCode) (c .before .number-by .ensures) ∙ asked-number _ _ _ _ (c .before .before .before .if1 .left) (c .before .before .if2 .taken)
+returns-2 c = c .number-number .ensures ∙ ap (numbered numberCode) (c .before .number-if-opened .ensures) ∙ asked-number _ _ _ _ (c .before .before .before .if1 .left) (c .before .before .if2 .taken)
 
-string-by-requires : tie.Need-string-by-requires
-string-by-requires c κs = search needs
+string-if-opened-requires : tie.Need-string-if-opened-requires
+string-if-opened-requires c κs = search needs
 
 string-number-requires : tie.Need-string-number-requires
-string-number-requires c κs = string-within _ _ _ (c .string-by .result) (c .string-by .ensures)
+string-number-requires c κs = string-within _ _ _ (c .string-if-opened .result) (c .string-if-opened .ensures)
 
 returns-3 : tie.Need-returns-3
-returns-3 c = c .string-number .ensures ∙ ap (numbered stringCode) (c .before .string-by .ensures) ∙ asked-string _ _ _ _ (c .before .before .before .before .if1 .left) (c .before .before .before .if2 .left) (c .before .before .if3 .taken)
+returns-3 c = c .string-number .ensures ∙ ap (numbered stringCode) (c .before .string-if-opened .ensures) ∙ asked-string _ _ _ _ (c .before .before .before .before .if1 .left) (c .before .before .before .if2 .left) (c .before .before .if3 .taken)
 
 mul-result : tie.Need-mul-result
 mul-result c = search needs
@@ -43,13 +43,13 @@ pub asked-number-spec : {M : Type 1} → statement M
 asked-number-spec =
     tie.close
     (tie.spec
-    boolean-by-requires
+    boolean-if-opened-requires
     boolean-number-requires
     returns
-    number-by-requires
+    number-if-opened-requires
     number-number-requires
     returns-2
-    string-by-requires
+    string-if-opened-requires
     string-number-requires
     returns-3
     mul-result

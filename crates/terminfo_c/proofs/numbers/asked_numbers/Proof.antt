@@ -54,11 +54,13 @@ loop-again : tie.Need-loop-again Inv-loop μ-loop
 loop-again c =
     let a = c .before .before .before .before .before .before .args in
     let t = c .before .before .before .before .loop in
-    let g = code (a .e) (now (a .file)) (now (a .kinds)) (now (a .places)) in
-    (search needs, t .inv .1,
-    put-store _ (t .answers) 0 (t .i) _ (tabulate g (t .i)) (tabulate g (t .i + 1)) (t .inv .2)
-      (rw (length-tabulate g (t .i)) (omega arith)) (tabulate-more g (t .i) ∙ ap (λ (x : ℕ). tabulate g (t .i) ++ (x ∷ [])) (sym (c .asked-number .ensures)))
-      (rw (t .inv .1) (c .before .before .before .loop-test .taken)))
+    let g = code (a .e) (now (a .file)) (now (a .kinds)) (now (a .places)) in (
+      search needs,
+      t .inv .1,
+      put-store _ (t .answers) 0 (t .i) _ (tabulate g (t .i)) (tabulate g (t .i + 1)) (t .inv .2)
+          (rw (length-tabulate g (t .i)) (omega arith)) (tabulate-more g (t .i) ∙ ap (λ (x : ℕ). tabulate g (t .i) ++ (x ∷ [])) (sym (c .asked-number .ensures)))
+          (rw (t .inv .1) (c .before .before .before .loop-test .taken)),
+    )
 
 returns : tie.Need-returns Inv-loop μ-loop
 returns c =

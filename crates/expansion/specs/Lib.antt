@@ -1,0 +1,6 @@
+pub mod Items
+pub mod Form
+pub mod Print
+pub mod Emit
+pub mod Machine
+pub mod Expanding

@@ -1,0 +1,361 @@
+-- What two opened files hand to the writer, and the answers of a merge in their order.
+-- Assumes nothing.
+use mathlib.Core.Path.{_≡_, refl, sym, ap, _∙_, subst}
+use mathlib.Core.Bool.{Bool, true, false}
+use mathlib.Core.List.{List, [], _∷_, _++_}
+use Prim.Native.Nat.{ℕ, zero, suc, _+_, _-_, _*_, _^_, _≤_, _<_}
+use native.Mathlib.Nat.{mul-suc}
+use native.Mathlib.Decide.{ℕ-discrete}
+use native.Mathlib.Omega.{arith}
+use lib.Dec.{eqb, leb}
+use lib.ListN.{length, getD, take, drop, set, length-append}
+use lib.Seq.{getD-set-same, getD-set-other, drop-append-add}
+use borrow.Author.Count.{below-more}
+use borrow.Author.Tests.{lt-ltb, le-leb, lt-leb, ne-eqb}
+use Rattle.base.specs.If.{if_then_else_}
+use Rattle.base.specs.Tabulate.{tabulate-ext}
+use Rattle.base.specs.Overwrite.{putAt}
+use Rattle.caps.specs.declared.Edition.{Edition}
+use Rattle.caps.specs.declared.Place.{Place}
+use Rattle.caps.specs.Edition.{okEdition, place, knows, booleansMost, numbersMost, stringsMost}
+use Rattle.entry.specs.declared.Sizes.{Sizes}
+use Rattle.entry.specs.declared.Tables.{Tables}
+use Rattle.entry.specs.declared.Part.{Part}
+use Rattle.entry.specs.declared.BooleanState.{BooleanState}
+use Rattle.entry.specs.declared.BooleanState.the-variants as B
+use Rattle.entry.specs.declared.NumberState.{NumberState}
+use Rattle.entry.specs.declared.NumberState.the-variants as N
+use Rattle.entry.specs.declared.StringState.{StringState}
+use Rattle.entry.specs.declared.StringState.the-variants as S
+use Rattle.entry.specs.Limits.{fileMost}
+use Rattle.entry.specs.State.{State, absent, cancelled, present, mapState}
+use Rattle.entry.specs.Answer.{Answer, refused, gives, andThen, isGiven}
+use Rattle.entry.specs.Layout.{sizesOf, sizeOf, tablesOf, beyondOf}
+use Rattle.entry.specs.Reading.{bytesOf, reading, namesPart, partIn, stringIn, booleanIn, numberIn}
+use Rattle.entry.specs.Asking.{opening, asking, askingNames, askingBoolean, askingNumber, askingString}
+use Rattle.entry.specs.Writing.{Handed, stateOf, stringHanded, encode, entryOf}
+use Rattle.entry.specs.Merging.{over, mergedBoolean, mergedNumber, merged, merging}
+use Rattle.entry.specs.Says.{saysBoolean, saysNumber, saysString}
+use Rattle.entry_laws.specs.Accepted.{Accepted, passed, reading-accepted, names-most}
+use Rattle.entry_laws.specs.Asked.{asking-gives}
+use Rattle.entry_laws.specs.Merge.{given-andThen, edition-counts}
+use Rattle.read.proofs.Laws.{open-file}
+use Rattle.states.specs.Opened.{OpenedAs}
+use Rattle.states.proofs.Laws.{asking-given, opened-accepted, string-inside, bytes-between}
+use Rattle.put.specs.Table.{stringOf, InPools, total}
+use Rattle.put.specs.TableLaws.{in-first, bytes-present, bytes-none, lent-described}
+use Rattle.writer.specs.Handed.{handed}
+use Rattle.writer.specs.File.{Sure, sizesHanded}
+use Rattle.writer.specs.FileLaws.{length-with}
+use Rattle.merge.specs.declared.fill.HandedNumber.{HandedNumber}
+use Rattle.merge.specs.declared.fill.HandedString.{HandedString}
+use Rattle.merge.specs.Filled.{BothOpened, booleanKind, handedNumber, handedString, BooleansFilled, NumbersFilled, StringFilled, StringsFilled, Ready}
+use Rattle.merge.specs.Answers.{fitting, Leaves, Fitted, Merges}
+
+-- ---- opened files
+
+-- an accepted file with its tables is opened, in an edition that passes
+pub opens : (e : Edition) (f : List ℕ) (s : Sizes) (t : Tables) → okEdition e ≡ true → gives s ≡ reading f → t ≡ tablesOf s → OpenedAs e f t
+opens e f s t o r q =
+    record { beyond = beyondOf e s; given = (λ i. gives (record { tables = q i; beyond = beyondOf e s })) ∙ open-file e f o (gives s) r }
+
+module _ {e : Edition} {f : List ℕ} {t : Tables} (o : OpenedAs e f t) where
+  given : isGiven (opening e f) ≡ true
+  given = ap isGiven (sym (o .given))
+
+  pub opened-file : Accepted f
+  opened-file = opened-accepted e f given
+
+  opened-reading : isGiven (reading f) ≡ true
+  opened-reading = ap isGiven (reading-accepted f opened-file)
+
+  pub opened-edition : okEdition e ≡ true
+  unfolding opening
+  opened-edition = passed (okEdition e) 3 [] _ _ (sym (o .given)) .0
+
+  -- the names, as the part between a start and an end
+  pub opened-names : (q : Part) → gives q ≡ askingNames e f → take (q .start + q .length - q .start) (drop (q .start) f) ≡ bytesOf f (namesPart (sizesOf f))
+  opened-names q g = bytes-between f q (namesPart (sizesOf f)) (asking-given e f true (namesPart (sizesOf f)) q g .1)
+
+  -- what asking gives at a place that the edition knows
+  pub said : {A : Type 0} (n : ℕ) (p : Place) (x : Answer A) (y : A) → p .0 < n → x ≡ asking e f (knows n p) y → x ≡ gives y
+  said n p x y h q = q ∙ asking-gives e f (knows n p) y y given (lt-ltb (p .0) n h) refl
+
+-- ---- a state over another, by kinds
+
+-- a first state of another kind than absent stands
+pub over-stands : {A : Type 0} (k : ℕ) (x : A) (s t : State A) → stateOf k x ≡ s → (k ≡ 0 → ⊥) → stateOf k x ≡ over s t
+unfolding stateOf over
+over-stands {A} k x s t q n = rw (← q, ne-eqb k 0 n) (by-test (eqb k 1))
+  where
+    by-test : (b : Bool) → (if b then present x else cancelled) ≡ over (if b then present x else cancelled) t
+    by-test true = refl
+    by-test false = refl
+
+-- a first state that is absent leaves the second
+pub over-leaves : {A : Type 0} (k : ℕ) (x : A) (s t : State A) → stateOf k x ≡ s → k ≡ 0 → t ≡ over s t
+unfolding stateOf over
+over-leaves k x s t q z = rw (← q, z)
+
+pub boolean-says : (s : BooleanState) (x : State Unit) → saysBoolean s ≡ gives x → stateOf (booleanKind s) tt ≡ x
+unfolding stateOf
+boolean-says B.Absent x q = cc
+boolean-says B.Cancelled x q = cc
+boolean-says B.Present x q = cc
+boolean-says B.Refused x q = cc
+
+pub number-says : (s : NumberState) (x : State ℕ) → saysNumber s ≡ gives x → stateOf (handedNumber s .kind) (handedNumber s .value) ≡ x
+unfolding stateOf
+number-says N.Absent x q = cc
+number-says N.Cancelled x q = cc
+number-says (N.Present n) x q = cc
+number-says N.Refused x q = cc
+
+abbrev partOf : HandedString → Part
+partOf s = record { start = s .start; length = s .length }
+
+pub string-says : (s : StringState) (x : State Part) → saysString s ≡ gives x → stateOf (handedString s .kind) (partOf (handedString s)) ≡ x
+unfolding stateOf
+string-says S.Absent x q = cc
+string-says S.Cancelled x q = cc
+string-says (S.Present p) x q = cc
+string-says S.Refused x q = cc
+
+-- ---- a string in the two files
+
+-- a present part lies in the file
+abbrev PartIn : List ℕ → State Part → Type 0
+PartIn f x = (q : Part) → x ≡ present q → q .start + q .length ≤ length f
+
+module _ {e : Edition} {f : List ℕ} {t : Tables} (o : OpenedAs e f t) (p : Place) (h : p .0 < e .strings) where
+  part-in : PartIn f (partIn f (sizesOf f) p)
+  part-in q d = string-inside e f p q (sym (asking-gives e f (knows (e .strings) p) _ _ (given o) (lt-ltb (p .0) (e .strings) h) d))
+
+  -- where a string starts, as it is handed over
+  pub start-most : (s : StringState) → saysString s ≡ askingString e f p → handedString s .start ≤ fileMost
+  start-most s q = by-state s (said o (e .strings) p (saysString s) (partIn f (sizesOf f) p) h q)
+    where
+      by-state : (r : StringState) → saysString r ≡ gives (partIn f (sizesOf f) p) → handedString r .start ≤ fileMost
+      by-state S.Absent d = omega arith
+      by-state S.Cancelled d = omega arith
+      by-state (S.Present r) d =
+          let i : r .start + r .length ≤ length f = part-in r cc in
+          let m = opened-file o .most in
+          omega arith
+      by-state S.Refused d = omega arith
+
+-- strings of a file f whose byte at a place stands in the two files at `at` of it
+module _ (a b f : List ℕ) (at : ℕ → ℕ) (moved : (q : Part) → q .start + q .length ≤ length f → take (q .length) (drop (at (q .start)) (a ++ b)) ≡ bytesOf f q)
+    (pools : (q : Part) → q .start + q .length ≤ length f → InPools (at (q .start)) (q .length) a b) where
+  moved-string : (s : StringState) (x : State Part) → saysString s ≡ gives x → PartIn f x
+      → (stringOf (handedString s .kind) (at (handedString s .start)) (handedString s .length) (a ++ b) ≡ mapState (bytesOf f) x)
+      × (handedString s .kind ≡ 1 → InPools (at (handedString s .start)) (handedString s .length) a b)
+  unfolding stateOf
+  moved-string S.Absent x q i = (let d : absent ≡ x = cc in ap (mapState (bytesOf f)) d, λ k. absurd (let z : ⊥ = omega arith in z))
+  moved-string S.Cancelled x q i = (let d : cancelled ≡ x = cc in ap (mapState (bytesOf f)) d, λ k. absurd (let z : ⊥ = omega arith in z))
+  moved-string (S.Present p) x q i =
+      let d : present p ≡ x = cc in
+      (ap present (moved p (i p (sym d))) ∙ ap (mapState (bytesOf f)) d, λ k. pools p (i p (sym d)))
+  moved-string S.Refused x q i = (let d : absent ≡ x = cc in ap (mapState (bytesOf f)) d, λ k. absurd (let z : ⊥ = omega arith in z))
+
+module _ {e : Edition} {a : List ℕ} {t : Tables} {b : List ℕ} {u : Tables} (o : BothOpened e a t b u) (p : Place) where
+  pub boolean-stands : (s : BooleanState) (k : ℕ) → p .0 < e .booleans → saysBoolean s ≡ askingBoolean e a p → k ≡ booleanKind s → (k ≡ 0 → ⊥)
+      → stateOf k tt ≡ mergedBoolean a b p
+  boolean-stands s k h q d n =
+      over-stands k tt (booleanIn a (sizesOf a) p) (booleanIn b (sizesOf b) p)
+      (ap (λ (j : ℕ). stateOf j tt) d ∙ boolean-says s _ (said (o .first) (e .booleans) p _ _ h q)) n
+
+  pub boolean-leaves : (s r : BooleanState) (k j : ℕ) → p .0 < e .booleans → saysBoolean s ≡ askingBoolean e a p → saysBoolean r ≡ askingBoolean e b p
+      → k ≡ booleanKind s → k ≡ 0 → j ≡ booleanKind r → stateOf j tt ≡ mergedBoolean a b p
+  boolean-leaves s r k j h q w d z g =
+      ap (λ (i : ℕ). stateOf i tt) g ∙ boolean-says r _ (said (o .second) (e .booleans) p _ _ h w)
+      ∙ over-leaves k tt (booleanIn a (sizesOf a) p) (booleanIn b (sizesOf b) p)
+      (ap (λ (i : ℕ). stateOf i tt) d ∙ boolean-says s _ (said (o .first) (e .booleans) p _ _ h q)) z
+
+  pub number-stands : (s : NumberState) (k : HandedNumber) → p .0 < e .numbers → saysNumber s ≡ askingNumber e a p → k ≡ handedNumber s → (k .kind ≡ 0 → ⊥)
+      → stateOf (k .kind) (k .value) ≡ mergedNumber a b p
+  number-stands s k h q d n =
+      over-stands (k .kind) (k .value) (numberIn a (sizesOf a) p) (numberIn b (sizesOf b) p)
+      (ap (λ (j : HandedNumber). stateOf (j .kind) (j .value)) d ∙ number-says s _ (said (o .first) (e .numbers) p _ _ h q)) n
+
+  pub number-leaves : (s r : NumberState) (k j : HandedNumber) → p .0 < e .numbers → saysNumber s ≡ askingNumber e a p → saysNumber r ≡ askingNumber e b p
+      → k ≡ handedNumber s → k .kind ≡ 0 → j ≡ handedNumber r → stateOf (j .kind) (j .value) ≡ mergedNumber a b p
+  number-leaves s r k j h q w d z g =
+      ap (λ (i : HandedNumber). stateOf (i .kind) (i .value)) g ∙ number-says r _ (said (o .second) (e .numbers) p _ _ h w)
+      ∙ over-leaves (k .kind) (k .value) (numberIn a (sizesOf a) p) (numberIn b (sizesOf b) p)
+      (ap (λ (i : HandedNumber). stateOf (i .kind) (i .value)) d ∙ number-says s _ (said (o .first) (e .numbers) p _ _ h q)) z
+
+  module _ (h : p .0 < e .strings) (s : StringState) (q : saysString s ≡ askingString e a p) where
+    -- the first file's string, as it is handed over
+    first-string : (stringOf (handedString s .kind) (handedString s .start) (handedString s .length) (a ++ b) ≡ stringIn a (sizesOf a) p)
+        × (handedString s .kind ≡ 1 → InPools (handedString s .start) (handedString s .length) a b)
+    unfolding stringIn
+    first-string =
+        moved-string a b a (λ n. n) (λ r i. in-first a b (r .start) (r .length) i) (λ r i. (rw (length-append a b) (omega arith), λ l. i))
+        s (partIn a (sizesOf a) p) (said (o .first) (e .strings) p _ _ h q) (part-in (o .first) p h)
+
+    pub string-stands : (k : HandedString) → k ≡ handedString s → (k .kind ≡ 0 → ⊥) → StringFilled a b p (k .kind) (k .start) (k .length)
+    string-stands k d n =
+        subst (λ (j : HandedString). (j .kind ≡ 0 → ⊥) → StringFilled a b p (j .kind) (j .start) (j .length)) (sym d)
+        (λ m. record { state = over-stands _ _ _ (stringIn b (sizesOf b) p) (first-string .0) m; lent = first-string .1 }) n
+
+    -- the second file's string stands behind the first file
+    second-string : (r : StringState) → saysString r ≡ askingString e b p
+        → (stringOf (handedString r .kind) (length a + handedString r .start) (handedString r .length) (a ++ b) ≡ stringIn b (sizesOf b) p)
+        × (handedString r .kind ≡ 1 → InPools (length a + handedString r .start) (handedString r .length) a b)
+    unfolding stringIn
+    second-string r w =
+        moved-string a b b (λ n. length a + n) (λ z i. ap (take (z .length)) (drop-append-add a b (z .start)))
+        (λ z i. (rw (length-append a b) (omega arith), λ l. absurd (let y : ⊥ = omega arith in y)))
+        r (partIn b (sizesOf b) p) (said (o .second) (e .strings) p _ _ h w) (part-in (o .second) p h)
+
+    pub string-leaves : (r : StringState) (k j : HandedString) → saysString r ≡ askingString e b p → k ≡ handedString s → k .kind ≡ 0 → j ≡ handedString r
+        → StringFilled a b p (j .kind) (length a + j .start) (j .length)
+    string-leaves r k j w d z g =
+        subst (λ (i : HandedString). StringFilled a b p (i .kind) (length a + i .start) (i .length)) (sym g)
+        (record {
+          state = second-string r w .0 ∙ over-leaves _ _ _ (stringIn b (sizesOf b) p) (first-string .0) (ap (λ (i : HandedString). i .kind) (sym d) ∙ z);
+          lent = second-string r w .1;
+        })
+
+-- ---- the turns of the loops that fill
+
+module _ (a b : List ℕ) (i : ℕ) where
+  pub booleans-turn : (kinds : List ℕ) (k : ℕ) → i < length kinds → BooleansFilled i a b kinds → stateOf k tt ≡ mergedBoolean a b (place i)
+      → BooleansFilled (i + 1) a b (set kinds i k)
+  booleans-turn kinds k l all here =
+      below-more _ i
+      (λ j h. rw (getD-set-other kinds i j k 0 (λ q. let z : ⊥ = omega arith in z)) (all j h))
+      (rw (getD-set-same kinds i k 0 l) here)
+
+  pub numbers-turn : (kinds values : List ℕ) (k v : ℕ) → i < length kinds → i < length values → NumbersFilled i a b kinds values
+      → stateOf k v ≡ mergedNumber a b (place i) → NumbersFilled (i + 1) a b (set kinds i k) (set values i v)
+  numbers-turn kinds values k v l m all here =
+      below-more _ i
+      (λ j h. let n : j ≡ i → ⊥ = λ q. omega arith in rw (getD-set-other kinds i j k 0 n, getD-set-other values i j v 0 n) (all j h))
+      (rw (getD-set-same kinds i k 0 l, getD-set-same values i v 0 m) here)
+
+  pub strings-turn : (kinds starts lengths : List ℕ) (k s n : ℕ) → i < length kinds → i < length starts → i < length lengths
+      → StringsFilled i a b kinds starts lengths → StringFilled a b (place i) k s n → StringsFilled (i + 1) a b (set kinds i k) (set starts i s) (set lengths i n)
+  strings-turn kinds starts lengths k s n l m r all here =
+      below-more _ i
+      (λ j h.
+      let w : j ≡ i → ⊥ = λ q. omega arith in
+      rw (getD-set-other kinds i j k 0 w, getD-set-other starts i j s 0 w, getD-set-other lengths i j n 0 w) (all j h))
+      (rw (getD-set-same kinds i k 0 l, getD-set-same starts i s 0 m, getD-set-same lengths i n 0 r) here)
+
+-- ---- what is handed over
+
+-- the table of strings of at most m bytes
+pub total-most : (kinds lengths : List ℕ) (m n : ℕ) → ((i : ℕ) → i < n → getD kinds i 0 ≡ 1 → getD lengths i 0 ≤ m) → total kinds lengths n ≤ (m + 1) * n
+unfolding total
+total-most kinds lengths m zero h = omega arith
+total-most kinds lengths m (suc n) h =
+    let ih = total-most kinds lengths m n (λ i l. h i (omega arith)) in
+    rw (mul-suc (m + 1) n)
+    (elim (ℕ-discrete (getD kinds n 0) 1) [
+      | yes e ↦ (let q = h n (omega arith) e in let r = bytes-present (getD kinds n 0) (getD lengths n 0) e in omega arith)
+      | no e ↦ (let r = bytes-none (getD kinds n 0) (getD lengths n 0) e in omega arith)
+    ])
+
+module _ {e : Edition} {a : List ℕ} {t : Tables} {b : List ℕ} {u : Tables} (o : BothOpened e a t b u)
+    (names bools nums values kinds starts lengths : List ℕ) (named : names ≡ bytesOf a (namesPart (sizesOf a)))
+    (strings : StringsFilled (e .strings) a b kinds starts lengths) where
+  abbrev filled : Handed
+  filled = handed names bools nums values kinds starts lengths (a ++ b)
+
+  -- it is the merged entry
+  pub entry-merged : BooleansFilled (e .booleans) a b bools → NumbersFilled (e .numbers) a b nums values → entryOf e filled ≡ merged e a b
+  unfolding entryOf merged
+  entry-merged f g =
+      λ i. record {
+        names = named i;
+        booleans = tabulate-ext _ _ (e .booleans) f i;
+        numbers = tabulate-ext _ _ (e .numbers) g i;
+        strings = tabulate-ext _ _ (e .strings) (λ j h. strings j h .state) i;
+      }
+
+  -- a string lies in the files, so it is no longer than they are
+  string-most : (i : ℕ) → i < e .strings → getD kinds i 0 ≡ 1 → getD lengths i 0 ≤ 2 * fileMost
+  string-most i h k =
+      let l = strings i h .lent k .0 in
+      let n : length (a ++ b) ≡ length a + length b = length-append a b in
+      let x = opened-file (o .first) .most in
+      let y = opened-file (o .second) .most in
+      omega arith
+
+  pub ready : length bools ≡ booleansMost → length nums ≡ numbersMost → length values ≡ numbersMost → length kinds ≡ stringsMost
+      → length starts ≡ stringsMost → length lengths ≡ stringsMost → Ready e filled a b
+  ready l₁ l₂ l₃ l₄ l₅ l₆ =
+      let m = edition-counts e (opened-edition (o .first)) in
+      let n : length names ≤ 127 = rw named (names-most a (opened-file (o .first))) in
+      let s : total kinds lengths (e .strings) ≤ 8193 * e .strings = total-most kinds lengths 8192 (e .strings) string-most in
+      record {
+        given = record { booleans = omega arith; numberKinds = omega arith; numberValues = omega arith; stringKinds = omega arith; stringStarts = omega arith; stringLengths = omega arith };
+        lent = λ i h. strings i h .lent;
+        measured = omega arith;
+      }
+
+-- ---- measuring it, and putting it if it fits: n is the size by kinds and lengths, c the buffer
+
+module _ {e : Edition} {h : Handed} {a b : List ℕ} (r : Ready e h a b) (l : h .lent ≡ a ++ b) (s : Sizes) (z : s ≡ sizesHanded e h) (n : ℕ) (q : n ≡ sizeOf s) (c : List ℕ) where
+  size-is : n ≡ sizeOf (sizesHanded e h)
+  size-is = q ∙ ap sizeOf z
+
+  pub ready-size : sizeOf s < 2 ^ 64
+  ready-size = let m = r .measured in let k = ap sizeOf z in omega arith
+
+  pub ready-sure : n ≤ fileMost → n ≤ length c → Sure c e h a b
+  ready-sure m k = let w = size-is in record { given = r .given; lent = r .lent; most = omega arith; room = omega arith }
+
+  abbrev file : List ℕ
+  file = encode (entryOf e h)
+
+  length-is : length file ≡ n
+  unfolding entryOf
+  length-is =
+      length-with e h (stringHanded h)
+      (lent-described (h .stringKinds) (h .stringStarts) (h .stringLengths) (h .lent) (e .strings) (λ i m k. rw l (r .lent i m k .0)))
+      ∙ sym size-is
+
+  pub fit-size : fileMost < n → Fitted file c c (refused 9 [])
+  fit-size m = let t : leb (length file) fileMost ≡ false = rw length-is (lt-leb n fileMost m) in (rw t, rw t)
+
+  module _ (m : n ≤ fileMost) where
+    fits : leb (length file) fileMost ≡ true
+    fits = rw length-is (le-leb n fileMost m)
+
+    pub fit-room : length c < n → Fitted file c c (refused 8 (n ∷ []))
+    fit-room k = let t : leb (length file) (length c) ≡ false = rw length-is (lt-leb n (length c) k) in (rw (fits, t, length-is), rw (fits, t))
+
+    pub fit-file : n ≤ length c → (d : List ℕ) → d ≡ putAt c 0 file → Fitted file c d (gives n)
+    fit-file k d p = let t : leb (length file) (length c) ≡ true = rw length-is (le-leb n (length c) k) in (rw (fits, t, length-is), rw (fits, t, p))
+
+-- ---- the answers of a merge, in their order
+
+module _ (e : Edition) (x y b : List ℕ) where
+  pub merge-edition : okEdition e ≡ false → Merges e x y b b (refused 3 [])
+  unfolding merging
+  merge-edition o = (rw o, rw o)
+
+  pub merge-first : okEdition e ≡ true → (n : ℕ) (v : List ℕ) → refused n v ≡ reading x → Merges e x y b b (refused n v)
+  unfolding merging
+  merge-first o n v q = (rw (o, ← q), rw (o, ← q))
+
+  pub merge-second : {t : Tables} → OpenedAs e x t → (n : ℕ) (v : List ℕ) → refused n v ≡ reading y → Merges e x y b b (refused n v)
+  unfolding merging
+  merge-second o n v q =
+      let z = opened-edition o in
+      let r : Answer (List ℕ) = refused n v in
+      let g : andThen (reading x) r ≡ r = given-andThen (reading x) r (opened-reading o) in
+      (rw (z, ← q, g), rw (z, ← q, g))
+
+  module _ {t u : Tables} (o : BothOpened e x t y u) where
+    merging-opened : merging e x y (length b) ≡ fitting (encode (merged e x y)) (length b)
+    unfolding merging
+    merging-opened =
+        let z = opened-edition (o .first) in
+        rw (z, given-andThen (reading x) _ (opened-reading (o .first)), given-andThen (reading y) _ (opened-reading (o .second)))
+
+    pub merge-fitted : (f c : List ℕ) (says : Answer ℕ) → f ≡ encode (merged e x y) → Fitted f b c says → Merges e x y b c says
+    merge-fitted f c says q w = subst (λ (z : Answer (List ℕ)). Leaves z b c says) (sym merging-opened) (subst (λ (g : List ℕ). Fitted g b c says) q w)

@@ -1,0 +1,149 @@
+// Merges compiled entries (document 01: Compiled entry, order of merging). Proved: `merge` answers every edition and every two
+// slices of bytes as `merging` of entry/specs says, and a refusal leaves the buffer as it was. Assumed: nothing.
+ghost use mathlib.Core.Path.{_≡_};
+ghost use mathlib.Core.List.{_++_};
+ghost use lib.ListN.{length};
+ghost use Rattle.entry.specs.Answer.{mapAnswer, bufferAfter};
+ghost use Rattle.entry.specs.Writing.{encode, entryOf};
+ghost use Rattle.entry.specs.Merging.{merging};
+ghost use Rattle.entry.specs.Says.{saysMerged};
+ghost use Rattle.states.specs.Opened.{OpenedAs};
+ghost use Rattle.writer.specs.Handed.{handed};
+ghost use Rattle.merge.specs.Filled.{BothOpened, Ready};
+ghost use Rattle.merge.specs.Answers.{Fitted, Merges};
+use caps::BOOLEANS_MOST;
+use caps::Edition;
+use caps::NUMBERS_MOST;
+use caps::STRINGS_MOST;
+use entry::FILE_MOST;
+use entry::FileRefusal;
+use entry::Judged;
+use entry::Merged;
+use entry::Tables;
+
+mod fill;
+
+// Writes what is handed over, if the file fits. Its strings stand in the two files.
+fn write_fitting(
+    edition: Edition,
+    names: &[u8],
+    boolean_kinds: &[u8],
+    number_kinds: &[u8],
+    number_values: &[u32],
+    string_kinds: &[u8],
+    string_starts: &[usize],
+    string_lengths: &[usize],
+    first: &[u8],
+    second: &[u8],
+    buffer: &mut [u8],
+) -> Merged
+    requires { ⌜ Ready edition (handed (now names) (now «boolean_kinds») (now «number_kinds») (now «number_values») (now «string_kinds») (now «string_starts») (now «string_lengths») (now first ++ now second)) (now first) (now second) ⌝ }
+    ensures { λ r. ⌜ Fitted (encode (entryOf edition (handed (now (names .entry)) (now («boolean_kinds» .entry)) (now («number_kinds» .entry)) (now («number_values» .entry)) (now («string_kinds» .entry)) (now («string_starts» .entry)) (now («string_lengths» .entry)) (now (first .entry) ++ now (second .entry))))) (now (buffer .entry)) (now (buffer .exit)) (saysMerged r) ⌝ }
+{
+    let size = writer::file::file_size(writer::file::sizes(
+        edition,
+        names,
+        string_kinds,
+        string_lengths,
+    ));
+    if FILE_MOST < size {
+        return Merged::Size;
+    }
+    if buffer.len() < size {
+        return Merged::Room(size);
+    }
+    writer::file::write_sure(
+        buffer,
+        edition,
+        names,
+        boolean_kinds,
+        number_kinds,
+        number_values,
+        string_kinds,
+        string_starts,
+        string_lengths,
+        first,
+        second,
+    );
+    Merged::File(size)
+}
+
+// Merges two files that are opened in the edition: the names are the first file's.
+fn merge_opened(
+    first: &[u8],
+    t: Tables,
+    second: &[u8],
+    u: Tables,
+    edition: Edition,
+    buffer: &mut [u8],
+) -> Merged
+    requires { ⌜ BothOpened edition (now first) t (now second) u ⌝ }
+    ensures { λ r. ⌜ Merges edition (now (first .entry)) (now (second .entry)) (now (buffer .entry)) (now (buffer .exit)) (saysMerged r) ⌝ }
+{
+    let mut boolean_kinds = [0u8; BOOLEANS_MOST];
+    let mut number_kinds = [0u8; NUMBERS_MOST];
+    let mut number_values = [0u32; NUMBERS_MOST];
+    let mut string_kinds = [0u8; STRINGS_MOST];
+    let mut string_starts = [0usize; STRINGS_MOST];
+    let mut string_lengths = [0usize; STRINGS_MOST];
+    fill::fill_booleans(&mut boolean_kinds, first, t, second, u, edition);
+    fill::fill_numbers(
+        &mut number_kinds,
+        &mut number_values,
+        first,
+        t,
+        second,
+        u,
+        edition,
+    );
+    fill::fill_strings(
+        &mut string_kinds,
+        &mut string_starts,
+        &mut string_lengths,
+        first,
+        t,
+        second,
+        u,
+        edition,
+    );
+    let part = states::opened::names_opened(first, edition, t);
+    let start = part.start;
+    let end = part.start + part.length;
+    write_fitting(
+        edition,
+        &first[start..end],
+        &boolean_kinds,
+        &number_kinds,
+        &number_values,
+        &string_kinds,
+        &string_starts,
+        &string_lengths,
+        first,
+        second,
+        buffer,
+    )
+}
+
+// Merges a file that is opened in the edition over one that is still to be judged.
+fn merge_over(first: &[u8], t: Tables, second: &[u8], edition: Edition, buffer: &mut [u8]) -> Merged
+    requires { ⌜ OpenedAs edition (now first) t ⌝ }
+    ensures { λ r. ⌜ Merges edition (now (first .entry)) (now (second .entry)) (now (buffer .entry)) (now (buffer .exit)) (saysMerged r) ⌝ }
+{
+    match read::judge(second) {
+        Judged::Accepted(s) => merge_opened(first, t, second, read::tables_for(s), edition, buffer),
+        Judged::Refused(why) => Merged::Refused(why),
+    }
+}
+
+// Merges the first file over the second at the buffer's start, or refuses and leaves the buffer as it is.
+pub fn merge(first: &[u8], second: &[u8], edition: Edition, buffer: &mut [u8]) -> Merged
+    ensures { λ r. ⌜ (saysMerged r ≡ mapAnswer length (merging edition (now (first .entry)) (now (second .entry)) (length (now (buffer .entry))))) × (now (buffer .exit) ≡ bufferAfter (now (buffer .entry)) (merging edition (now (first .entry)) (now (second .entry)) (length (now (buffer .entry))))) ⌝ }
+{
+    if !caps::edition_ok(edition) {
+        return Merged::Refused(FileRefusal::Counts);
+    }
+    match read::judge(first) {
+        Judged::Accepted(s) => merge_over(first, read::tables_for(s), second, edition, buffer),
+        Judged::Refused(why) => Merged::Refused(why),
+    }
+}

@@ -1,0 +1,4 @@
+pub mod Numeral
+pub mod NumeralLaws
+pub mod DigitLaws
+pub mod EmitLaws

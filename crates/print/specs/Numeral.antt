@@ -1,0 +1,35 @@
+-- A printed number by its parts: what stands before the digits, and the digits of a magnitude.
+-- Assumes nothing.
+use mathlib.Core.Path.{_≡_}
+use mathlib.Core.Bool.{Bool, true, false}
+use mathlib.Core.List.{List, [], _∷_, _++_}
+use Prim.Native.Nat.{ℕ, _≤_}
+use lib.IntN.{ℤ}
+use lib.ListN.{replicate}
+use Rattle.base.specs.If.{if_then_else_}
+use Rattle.expansion.specs.declared.Base.{Base}
+use Rattle.expansion.specs.Print.{digits, sign, numeral}
+use Rattle.print.specs.declared.Numeral.{Numeral}
+
+abbrev pub minusSign : Bool → List ℕ
+minusSign true = 45 ∷ []
+minusSign false = []
+
+-- the sign, with so many blanks before it or zeros after it
+unfoldable pub front : Bool → Bool → ℕ → List ℕ
+front minus zeros missing = if zeros then minusSign minus ++ replicate missing 48 else replicate missing 32 ++ minusSign minus
+
+-- n is what v is printed from in a base
+pub record NumeralOf (base : Base) (v : ℤ) (n : Numeral) : Type 0 where
+  pub sign-is : sign base v ≡ minusSign (n .minus)
+  pub digits-are : numeral base v ≡ digits (n .radix) (n .letters) (n .magnitude)
+  pub radix-least : 2 ≤ n .radix
+  pub radix-most : n .radix ≤ 16
+  pub letters-most : n .letters ≤ 97
+  pub decimal-letters : n .radix ≡ 10 → n .letters ≡ 97
+
+-- n is printed as decimal digits alone
+pub record Plain (n : Numeral) (width : ℕ) : Type 0 where
+  pub no-width : width ≡ 0
+  pub no-sign : n .minus ≡ false
+  pub decimal : n .radix ≡ 10

@@ -1,0 +1,237 @@
+// Numbers and bytes put into a buffer where they fit (document 01: Expansion). Proved: the length and the bytes are those of `printed`
+// and `emitted` of expansion/specs. Assumed: nothing.
+ghost use mathlib.Core.Path.{_≡_};
+ghost use mathlib.Core.Bool.{true};
+ghost use mathlib.Core.List.{[], _∷_};
+ghost use Prim.Native.Nat.{ℕ, _+_, _-_, _≤_, _<_};
+ghost use lib.ListN.{length, replicate};
+ghost use Rattle.base.specs.Overwrite.{putAt};
+ghost use Rattle.expansion.specs.Print.{digitByte, digits, printed};
+ghost use Rattle.expansion.specs.Emit.{emitted};
+ghost use Rattle.print.specs.Numeral.{minusSign, front, NumeralOf, Plain};
+use expansion::Base;
+
+// What a value is printed from: its sign and its magnitude, with the base's radix and its first letter.
+pub struct Numeral {
+    pub minus: bool,
+    pub magnitude: u32,
+    pub radix: u32,
+    pub letters: u8,
+}
+
+fn numeral_of(base: Base, value: i32) -> Numeral
+    ensures { λ r. ⌜ NumeralOf base value r ⌝ }
+{
+    let bits = signed::bits_of(value);
+    match base {
+        Base::Decimal => {
+            if value < 0 {
+                Numeral {
+                    minus: true,
+                    magnitude: 4294967295 - bits + 1,
+                    radix: 10,
+                    letters: b'a',
+                }
+            } else {
+                Numeral {
+                    minus: false,
+                    magnitude: bits,
+                    radix: 10,
+                    letters: b'a',
+                }
+            }
+        }
+        Base::Octal => Numeral {
+            minus: false,
+            magnitude: bits,
+            radix: 8,
+            letters: b'a',
+        },
+        Base::SmallHex => Numeral {
+            minus: false,
+            magnitude: bits,
+            radix: 16,
+            letters: b'a',
+        },
+        Base::CapitalHex => Numeral {
+            minus: false,
+            magnitude: bits,
+            radix: 16,
+            letters: b'A',
+        },
+    }
+}
+
+// How many digits a number has.
+fn count_digits(n: u32, radix: u32) -> usize
+    requires { ⌜ (2 ≤ radix) × (radix ≤ 16) ⌝ }
+    ensures { λ r. ⌜ ((letters : ℕ) → r ≡ length (digits radix letters n)) ⌝ }
+{
+    let number = n as u64;
+    let factor = radix as u64;
+    let mut limit = factor;
+    let mut count: usize = 1;
+    while limit <= number {
+        limit = limit * factor;
+        count += 1;
+    }
+    count
+}
+
+// Decimal digits, the last of them before a place.
+fn put_digits(out: &mut [u8], end: usize, n: u32)
+    requires { ⌜ (length (digits 10 97 n) ≤ end) × (end ≤ length (now out)) ⌝ }
+    ensures { λ _. ⌜ now (out .exit) ≡ putAt (now (out .entry)) (end - length (digits 10 97 n)) (digits 10 97 n) ⌝ }
+{
+    let mut at = end;
+    let mut left = n;
+    while left >= 10 {
+        at -= 1;
+        out[at] = 48 + (left % 10) as u8;
+        left = left / 10;
+    }
+    at -= 1;
+    out[at] = 48 + left as u8;
+}
+
+fn digit_byte(letters: u8, digit: u32) -> u8
+    requires { ⌜ (letters ≤ 97) × (digit < 16) ⌝ }
+    ensures { λ r. ⌜ r ≡ digitByte letters digit ⌝ }
+{
+    if digit < 10 {
+        48 + digit as u8
+    } else {
+        letters + (digit - 10) as u8
+    }
+}
+
+// The digits of any base, the last of them before a place.
+fn put_in_base(out: &mut [u8], end: usize, n: u32, radix: u32, letters: u8)
+    requires { ⌜ (2 ≤ radix) × (radix ≤ 16) × (letters ≤ 97) × (length (digits radix letters n) ≤ end) × (end ≤ length (now out)) ⌝ }
+    ensures { λ _. ⌜ now (out .exit) ≡ putAt (now (out .entry)) (end - length (digits radix letters n)) (digits radix letters n) ⌝ }
+{
+    let mut at = end;
+    let mut left = n;
+    while left >= radix {
+        at -= 1;
+        out[at] = digit_byte(letters, left % radix);
+        left = left / radix;
+    }
+    at -= 1;
+    out[at] = digit_byte(letters, left);
+}
+
+fn sign_length(minus: bool) -> usize
+    ensures { λ r. ⌜ r ≡ length (minusSign minus) ⌝ }
+{
+    if minus { 1 } else { 0 }
+}
+
+fn put_sign(out: &mut [u8], at: usize, minus: bool)
+    requires { ⌜ at + length (minusSign minus) ≤ length (now out) ⌝ }
+    ensures { λ _. ⌜ now (out .exit) ≡ putAt (now (out .entry)) at (minusSign minus) ⌝ }
+{
+    if minus {
+        out[at] = b'-';
+    }
+}
+
+// A byte so many times.
+fn put_fill(out: &mut [u8], at: usize, byte: u8, count: usize)
+    requires { ⌜ at + count ≤ length (now out) ⌝ }
+    ensures { λ _. ⌜ now (out .exit) ≡ putAt (now (out .entry)) at (replicate count byte) ⌝ }
+{
+    let mut i: usize = 0;
+    while i < count {
+        out[at + i] = byte;
+        i += 1;
+    }
+}
+
+// What stands before the digits: the sign, with blanks before it or zeros after it.
+fn put_front(out: &mut [u8], at: usize, minus: bool, zero: bool, missing: usize)
+    requires { ⌜ at + (length (minusSign minus) + missing) ≤ length (now out) ⌝ }
+    ensures { λ _. ⌜ now (out .exit) ≡ putAt (now (out .entry)) at (front minus zero missing) ⌝ }
+{
+    if missing == 0 {
+        put_sign(out, at, minus);
+        return;
+    }
+    if zero {
+        put_sign(out, at, minus);
+        put_fill(out, at + sign_length(minus), b'0', missing);
+        return;
+    }
+    put_fill(out, at, b' ', missing);
+    put_sign(out, at + missing, minus);
+}
+
+// How many bytes a width asks for beyond a length.
+fn missing_of(width: u8, length: usize) -> usize
+    ensures { λ r. ⌜ r ≡ width - length ⌝ }
+{
+    let w = width as usize;
+    if length < w { w - length } else { 0 }
+}
+
+// Whether a numeral is printed as decimal digits alone.
+fn is_plain(n: Numeral, width: u8) -> bool
+    ensures { λ r. ⌜ (r ≡ true → Plain n width) ⌝ }
+{
+    if width != 0 {
+        return false;
+    }
+    if n.minus {
+        return false;
+    }
+    if n.radix != 10 {
+        return false;
+    }
+    true
+}
+
+// Puts decimal digits where they fit, and gives their length in any case.
+fn put_plain(out: &mut [u8], at: usize, n: u32) -> usize
+    requires { ⌜ at ≤ 255000 ⌝ }
+    ensures { λ r. ⌜ (r ≡ length (digits 10 97 n)) × (r ≤ 255) × (now (out .exit) ≡ emitted (now (out .entry)) at (digits 10 97 n)) ⌝ }
+{
+    let count = count_digits(n, 10);
+    if out.len() < at + count {
+        return count;
+    }
+    put_digits(out, at + count, n);
+    count
+}
+
+// Puts a number in a base where it fits, and gives its length in any case.
+pub fn put_number(out: &mut [u8], at: usize, base: Base, zero: bool, width: u8, value: i32) -> usize
+    requires { ⌜ at ≤ 255000 ⌝ }
+    ensures { λ r. ⌜ (r ≡ length (printed base zero width value)) × (r ≤ 255) × (now (out .exit) ≡ emitted (now (out .entry)) at (printed base zero width value)) ⌝ }
+{
+    let n = numeral_of(base, value);
+    if is_plain(n, width) {
+        return put_plain(out, at, n.magnitude);
+    }
+    let body = count_digits(n.magnitude, n.radix) + sign_length(n.minus);
+    let missing = missing_of(width, body);
+    let total = body + missing;
+    if out.len() < at + total {
+        return total;
+    }
+    put_front(out, at, n.minus, zero, missing);
+    if n.radix == 10 {
+        put_digits(out, at + total, n.magnitude);
+    } else {
+        put_in_base(out, at + total, n.magnitude, n.radix, n.letters);
+    }
+    total
+}
+
+// Puts a byte at a place where it fits.
+pub fn put_byte(out: &mut [u8], at: usize, b: u8)
+    ensures { λ _. ⌜ now (out .exit) ≡ emitted (now (out .entry)) at (b ∷ []) ⌝ }
+{
+    if at < out.len() {
+        out[at] = b;
+    }
+}

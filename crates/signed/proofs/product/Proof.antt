@@ -1,0 +1,18 @@
+-- `signed::product` meets its contract: a product of two 32-bit numbers fits 64 bits.
+-- Assumes nothing.
+use Rattle.signed.proofs.Laws.{below}
+use borrow.Author.Needs.{needs}
+use Rattle.signed.proofs.product.Statement.{statement}
+use Rattle.signed.proofs.product.Tie as tie
+
+mul-result : tie.Need-mul-result
+mul-result c = record { fits = below 32 (c .fits .a .fits) (c .fits .b .fits) }
+
+cast-result : tie.Need-cast-result
+cast-result c = search needs
+
+returns : tie.Need-returns
+returns c = search needs
+
+pub product-spec : {M : Type 1} → statement M
+product-spec = tie.close (tie.spec mul-result cast-result returns)
