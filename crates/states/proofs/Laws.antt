@@ -219,12 +219,6 @@ string-inside e f p q g =
     by-slot cancelled k = tt
     by-slot (present c) k = content-inside f (sizesOf f) (offset c) k
 
--- the part between a start and an end
-pub bytes-between : (f : List ℕ) (q d : Part) → q ≡ d → take (q .start + q .length - q .start) (drop (q .start) f) ≡ bytesOf f d
-bytes-between f q d r =
-    let n : q .start + q .length - q .start ≡ q .length = omega arith in
-    ap (λ (m : ℕ). take m (drop (q .start) f)) n ∙ ap (bytesOf f) r
-
 -- ---- a list filled in step with another
 
 module _ {A B C : Type 0} (g : A → C) (h : B → C) (xs : List A) (ys : List B) (i : ℕ) where
@@ -237,7 +231,3 @@ module _ {A B C : Type 0} (g : A → C) (h : B → C) (xs : List A) (ys : List B
   -- all of them
   pub map-whole : length xs ≤ i → length ys ≤ i → map g (take i xs) ≡ map h (take i ys) → map g xs ≡ map h ys
   map-whole l m p = ap (map g) (sym (take-all i xs l)) ∙ p ∙ ap (map h) (take-all i ys m)
-
--- where a part of a slice at offset o of its block points
-pub part-place : (o : ℕ) (q d : Part) → q ≡ d → q .start + o ≡ o + d .start
-part-place o q d e = let h : q .start ≡ d .start = ap (λ (p : Part). p .start) e in omega arith
