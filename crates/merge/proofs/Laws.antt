@@ -41,7 +41,7 @@ use Rattle.entry_laws.specs.Asked.{asking-gives}
 use Rattle.entry_laws.specs.Merge.{given-andThen, edition-counts}
 use Rattle.read.proofs.Laws.{open-file}
 use Rattle.states.specs.Opened.{OpenedAs}
-use Rattle.states.proofs.Laws.{asking-given, opened-accepted, string-inside, bytes-between}
+use Rattle.states.proofs.Laws.{asking-given, opened-accepted, string-inside}
 use Rattle.put.specs.Table.{stringOf, InPools, total}
 use Rattle.put.specs.TableLaws.{in-first, bytes-present, bytes-none, lent-described}
 use Rattle.writer.specs.Handed.{handed}
@@ -75,7 +75,9 @@ module _ {e : Edition} {f : List ℕ} {t : Tables} (o : OpenedAs e f t) where
 
   -- the names, as the part between a start and an end
   pub opened-names : (q : Part) → gives q ≡ askingNames e f → take (q .start + q .length - q .start) (drop (q .start) f) ≡ bytesOf f (namesPart (sizesOf f))
-  opened-names q g = bytes-between f q (namesPart (sizesOf f)) (asking-given e f true (namesPart (sizesOf f)) q g .1)
+  opened-names q g =
+      let n : q .start + q .length - q .start ≡ q .length = omega arith in
+      ap (λ (m : ℕ). take m (drop (q .start) f)) n ∙ ap (bytesOf f) (asking-given e f true (namesPart (sizesOf f)) q g .1)
 
   -- what asking gives at a place that the edition knows
   pub said : {A : Type 0} (n : ℕ) (p : Place) (x : Answer A) (y : A) → p .0 < n → x ≡ asking e f (knows n p) y → x ≡ gives y

@@ -12,6 +12,19 @@ use Rattle.entry.specs.State.{State, absent, cancelled, present, slotOf, okSlot
 use Rattle.entry.specs.Answer.{Answer, refused, gives, numberOf}
 use Rattle.entry.specs.Layout.{sizesOf, sizeOf}
 use Rattle.entry.specs.Reading.{okCounts, okNames, okBooleans, okPad, okNumbers, okStrings, reading, slotIn, numberIn}
+use Prim.Native.Char.{code}
+use Prim.Native.String.{String}
+use Prim.Native.String.String.{[] as empty, _∷_ as join}
+use mathlib.Core.List.{_++_}
+use Prim.Native.Nat.{zero, suc}
+use lib.IntN.{ℤ, pos, negsuc}
+use lib.ListN.{replicate}
+use Rattle.signed.specs.Signed.{low32, wrap, add, subtract, multiply, divide, remainder}
+use Rattle.expansion.specs.Items.{singles, found, argumentAt, quotedAt, decimal, bracedAt, storeAt, loadAt, formatAt, widthAt, percentAt, itemAt}
+use Rattle.expansion.specs.Form.{classOf, classAt, afterIf, afterThen, afterElse, afterEnd, nesting, formFrom, formOf}
+use Rattle.expansion.specs.Print.{digitsFrom, digits, numeral, printed}
+use Rattle.expansion.specs.Machine.{applied, inverted, character, loaded, stored, incremented, arity, effect, performed, taking, passing, passed, running, run}
+use Rattle.expansion.specs.Expanding.{Expanding, ended, formed, expanding}
 use Rattle.entry.specs.Asking.{opening, asking, askingNumber}
 
 -- what a definition gives, and what the document says, as numbers
@@ -37,6 +50,28 @@ told (gives absent) = 0 ∷ 0 ∷ []
 told (gives (present n)) = 0 ∷ 1 ∷ n ∷ []
 told (gives cancelled) = 0 ∷ 2 ∷ []
 
+-- a quoted text as bytes; the same behind `\E`
+abbrev pub codes : String → List ℕ
+codes empty = []
+codes (join c s) = code c ∷ codes s
+
+abbrev pub escaped : String → List ℕ
+escaped s = 27 ∷ codes s
+
+-- a refusal's number and values; or 0, the steps and the output
+abbrev pub expanded : Answer Expanding → List ℕ
+expanded (refused n v) = n ∷ v
+expanded (gives x) = 0 ∷ x .steps ∷ x .output
+
+-- a string expanded with two arguments, the others 0, into 100 bytes
+abbrev pub at : List ℕ → ℤ → ℤ → List ℕ
+at s a b = expanded (expanding s (a ∷ b ∷ replicate 7 (pos 0)) (replicate 26 (pos 0)) 100 0)
+
+-- as many pushes
+abbrev pub pushes : ℕ → List ℕ
+pushes zero = []
+pushes (suc n) = codes "%p1" ++ pushes n
+
 unfoldable pub trials : List Trial
 trials =
     -- P1: sizes 32, 21, 8, 138, 34 give 392
@@ -47,8 +82,28 @@ trials =
     ∷ row (told (askingNumber first (named 1 (255 ∷ 127 ∷ [])) (place 0))) (0 ∷ 1 ∷ 32767 ∷ [])
     ∷ row (numberOf (opening first (named 1 (0 ∷ 128 ∷ []))) ∷ []) (6 ∷ [])
     ∷ row (told (askingNumber first (named 1 (254 ∷ 255 ∷ [])) (place 0))) (0 ∷ 2 ∷ [])
+    -- P4: `\E=%p1%' '%+%c%p2%' '%+%c` at 3, 12: bytes 27 61 35 44, 10 steps
+    ∷ row (at (escaped "=%p1%' '%+%c%p2%' '%+%c") (pos 3) (pos 12)) (0 ∷ 10 ∷ 27 ∷ 61 ∷ 35 ∷ 44 ∷ [])
+    -- P5: `\E&a%p2%02dc%p1%02dY` at 3, 12: `\E&a12c03Y`
+    ∷ row (at (escaped "&a%p2%02dc%p1%02dY") (pos 3) (pos 12)) (0 ∷ 9 ∷ escaped "&a12c03Y")
+    -- P6: `%p1%p2%-%d` at 7, 5: 2
+    ∷ row (at (codes "%p1%p2%-%d") (pos 7) (pos 5)) (0 ∷ 4 ∷ codes "2")
+    -- P7: `%p1%03d` at -5: `-05`; `%p1%3d`: ` -5`
+    ∷ row (at (codes "%p1%03d") (negsuc 4) (pos 0)) (0 ∷ 2 ∷ codes "-05")
+    ∷ row (at (codes "%p1%3d") (negsuc 4) (pos 0)) (0 ∷ 2 ∷ codes " -5")
+    -- P8: `%?%p1%tA%e%p2%tB%eC%;`: 1,0 A in 5 steps; 0,1 B; 0,0 C in 7
+    ∷ row (at (codes "%?%p1%tA%e%p2%tB%eC%;") (pos 1) (pos 0)) (0 ∷ 5 ∷ codes "A")
+    ∷ row (at (codes "%?%p1%tA%e%p2%tB%eC%;") (pos 0) (pos 1)) (0 ∷ 7 ∷ codes "B")
+    ∷ row (at (codes "%?%p1%tA%e%p2%tB%eC%;") (pos 0) (pos 0)) (0 ∷ 7 ∷ codes "C")
+    -- P9: `%?%p2%|%t;4%;`: 15, place 5
+    ∷ row (at (codes "%?%p2%|%t;4%;") (pos 0) (pos 0)) (15 ∷ 5 ∷ [])
+    -- P10: `\E[%i%p1%d;%p2%dH` at 0, 0: `\E[1;1H`
+    ∷ row (at (escaped "[%i%p1%d;%p2%dH") (pos 0) (pos 0)) (0 ∷ 9 ∷ escaped "[1;1H")
+    -- P11: 20 pushes succeed, the 21st is 16
+    ∷ row (at (pushes 20) (pos 0) (pos 0)) (0 ∷ 20 ∷ [])
+    ∷ row (at (pushes 21) (pos 0) (pos 0)) (16 ∷ 60 ∷ [])
     ∷ []
 
 pub trials-hold : map (λ (t : Trial). t .found) trials ≡ map (λ (t : Trial). t .expected) trials
-unfolding trials opening okEdition reading sizesOf word okCounts okNames scan okBooleans okBoolean okPad okNumbers okSlot okStrings asking numberIn slotIn slotOf
+unfolding trials opening okEdition reading sizesOf word okCounts okNames scan okBooleans okBoolean okPad okNumbers okSlot okStrings asking numberIn slotIn slotOf low32 wrap add subtract multiply divide remainder singles found argumentAt quotedAt decimal bracedAt storeAt loadAt formatAt widthAt percentAt itemAt classOf classAt afterIf afterThen afterElse afterEnd nesting formFrom formOf digitsFrom digits numeral printed applied inverted character loaded stored incremented arity effect performed taking passing passed running run ended formed expanding
 trials-hold = refl
