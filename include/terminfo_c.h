@@ -1,4 +1,4 @@
-/* The terminfo library for C and C++: compiled entries are opened, asked and written.
+/* The terminfo library for C and C++: compiled entries are opened, asked, written and merged.
  *
  * An edition is three counts, of booleans (at most 64), numbers (at most 64) and strings (at most
  * 512); it knows the places below its counts in the three ordered lists of capabilities. The first
@@ -53,7 +53,7 @@ static inline unsigned terminfo_refusal(uint64_t answer) { return (unsigned)(ans
 static inline unsigned terminfo_kind(uint64_t answer) { return (unsigned)(answer >> 48) & 255u; }
 
 /* The number's value in the answer of terminfo_number, or the file's length in that of
- * terminfo_write (success, or refusal 8). */
+ * terminfo_write or terminfo_merge (success, or refusal 8). */
 static inline uint64_t terminfo_value(uint64_t answer) { return answer & 0xFFFFFFFFFFFFu; }
 
 /* Where the part of the file starts that terminfo_names or terminfo_string gives. */
@@ -162,6 +162,27 @@ uint64_t terminfo_write(size_t booleans, size_t numbers, size_t strings,
                         const size_t *string_starts, size_t string_starts_length,
                         const size_t *string_lengths, size_t string_lengths_length,
                         const uint8_t *lent, size_t lent_length,
+                        uint8_t *buffer, size_t buffer_length);
+
+/* Merges a first file over a second one and writes the result, from the buffer's first byte on.
+ *
+ * first, first_length         the bytes of the first file.
+ * second, second_length       the bytes of the second file; the two may be the same memory.
+ * booleans, numbers, strings  the edition in which both files are read and the result is written.
+ * buffer                      takes the merged file; its bytes past the file stay.
+ *
+ * The merged file has the first file's names and exactly the edition's slots. The state of each
+ * capability is the first file's; where that is absent, it is the second file's. A cancelled state
+ * is not absent, so that a state cancelled in the first file stays cancelled. Slots of either file
+ * past the edition are dropped. Contents of strings are kept whatever their length, above 1,000
+ * bytes too. Strings that share bytes in a file are written apart, each with its own NUL, so that
+ * the merged file can be longer than 4,096 bytes (refusal 9) where both files are accepted.
+ *
+ * Success gives the merged file's length (terminfo_value). Refusals, the first that applies: 3
+ * (edition), 1 to 7 as terminfo_open gives them for the first file, 1 to 7 as it gives them for the
+ * second file, 9, 8 (gives the merged file's length: terminfo_value). */
+uint64_t terminfo_merge(const uint8_t *first, size_t first_length, const uint8_t *second,
+                        size_t second_length, size_t booleans, size_t numbers, size_t strings,
                         uint8_t *buffer, size_t buffer_length);
 
 /* Gives the name of a capability of the first edition.

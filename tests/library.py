@@ -25,6 +25,7 @@ REFUSALS = {
     "ask": (0, 17),
     "answers of ask": (0, 17),
     "write": (0, 3, 4, 7, 8, 9, 13),
+    "merge": (0, 1, 2, 3, 4, 5, 6, 7, 8, 9),
     "capability": (0, 17),
 }
 
@@ -38,6 +39,7 @@ ARGUMENTS = {
     "string": FILE_AND_EDITION + [SIZE],
     "ask": FILE_AND_EDITION + [POINTER, POINTER, POINTER],
     "write": [SIZE, SIZE, SIZE] + 9 * [POINTER, SIZE],
+    "merge": [POINTER, SIZE] + FILE_AND_EDITION + [POINTER, SIZE],
     "capability": [ctypes.c_uint8, SIZE],
 }
 
@@ -222,9 +224,53 @@ class Reader:
         return 0, [self.model_state(kind, place) for kind, place in zip(kinds, places)]
 
 
-# The arrays of States in the order of the C interface, and the buffer.
+def contents(file, edition):
+    """Names and states of a file as the library reads it in an edition; None if it is refused.
+
+    The states are a dictionary from kind and place to kind of state and content (None: no content).
+    """
+    reader = Reader(file, edition)
+    names = reader.names()
+    if names >> 56:
+        return None
+    states = {}
+    asked = [(kind, place) for kind in range(3) for place in range(edition[kind])]
+    for first in range(0, len(asked), 8):
+        eight = asked[first:first + 8]
+        kinds, places = zip(*eight, *(8 - len(eight)) * [(model.BOOLEAN, 0)])
+        refused, answers = reader.ask(kinds, places)
+        if refused:
+            return None
+        for (kind, place), answer in zip(eight, answers):
+            states[kind, place] = state_of(file, kind, answer)
+    return part_of(file, names), states
+
+
+# The arrays of States in the order of the C interface, the two files to merge, and the buffer.
 WRITER_LENT = [Lent(code, 1 << 14) for code in ("B", "B", "B", "I", "B", "Q", "Q", "B")]
-WRITER_BUFFER = Lent(capacity=1 << 14)
+MERGE_LENT = [Lent(capacity=1 << 16) for _ in range(2)]
+BUFFER = Lent(capacity=1 << 14)
+
+
+def written(call, arguments, room):
+    """The answer of a call that writes a file, and the file (None if refused)."""
+    BUFFER.put_pattern(room)
+    answer = CALLS[call](*arguments, BUFFER.address, room)
+    if answer >> 56:
+        require(BUFFER.kept(), f"buffer of a refused {call}")
+        return answer, None
+    require(answer <= room, "length above the buffer's")
+    require(BUFFER.kept_after(answer), "bytes around the file")
+    return answer, BUFFER.written()[:answer]
+
+
+def model_written(call, *arguments):
+    """The answer and the file (None if refused) of a call of the model that writes a file."""
+    try:
+        file = call(*arguments)
+        return len(file), file
+    except model.Refusal as refusal:
+        return pack(refusal.number, refusal.value), None
 
 
 def write(edition, states, room):
@@ -233,23 +279,32 @@ def write(edition, states, room):
     for lent, elements in zip(WRITER_LENT, states):
         lent.put(elements)
         arguments += (lent.address, lent.length)
-    WRITER_BUFFER.put_pattern(room)
-    answer = CALLS["write"](*arguments, WRITER_BUFFER.address, room)
+    found = written("write", arguments, room)
     require(all(lent.kept() for lent in WRITER_LENT), "what is lent to the writer")
-    if answer >> 56:
-        require(WRITER_BUFFER.kept(), "buffer of a refused writer")
-        return answer, None
-    require(answer <= room, "length above the buffer's")
-    require(WRITER_BUFFER.kept_after(answer), "bytes around the file")
-    return answer, WRITER_BUFFER.written()[:answer]
+    return found
 
 
 def model_write(edition, states, room):
-    try:
-        file = model.write(edition, states, room)
-        return len(file), file
-    except model.Refusal as refusal:
-        return pack(refusal.number, refusal.value), None
+    return model_written(model.write, edition, states, room)
+
+
+def merge(first, second, edition, room):
+    """The library's answer and the file that it wrote (None if refused).
+
+    Where both files are one Python object the same memory is lent for both.
+    """
+    upper, lower = MERGE_LENT
+    upper.put(first)
+    lower.put(second)
+    lent = [upper, upper if first is second else lower]
+    arguments = [argument for file in lent for argument in (file.address, file.length)]
+    found = written("merge", arguments + list(edition), room)
+    require(upper.kept() and lower.kept(), "the files to merge")
+    return found
+
+
+def model_merge(first, second, edition, room):
+    return model_written(model.merge, first, second, edition, room)
 
 
 def capability(kind, place):

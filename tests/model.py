@@ -1,4 +1,4 @@
-"""Compiled entries as document 01 defines them: opening, asking, writing, and the ordered lists.
+"""Compiled entries as document 01 defines them: opening, asking, writing, merging, and the lists.
 
 Written from document 01 alone, independently of the library; the tests compare the two.
 A refused call raises Refusal. An edition is three counts: booleans, numbers, strings.
@@ -166,8 +166,7 @@ def write(edition, states, room):
                    len(states.string_lengths)) < strings):
         raise Refusal(3)
 
-    names = states.names + b"\0"
-    if not LEAST_NAMES_SIZE <= len(names) <= LARGEST_NAMES_SIZE or 0 in states.names:
+    if not LEAST_NAMES_SIZE <= len(states.names) + 1 <= LARGEST_NAMES_SIZE or 0 in states.names:
         raise Refusal(4)
 
     boolean_kinds = states.boolean_kinds[:booleans]
@@ -191,9 +190,24 @@ def write(edition, states, room):
         if length > LARGEST_STRING or 0 in contents[place]:
             raise Refusal(13)
 
-    table_size = sum(len(content) + 1 for content in contents.values())
-    pad_bytes = bytes(pad(len(names), booleans))
-    size = (HEADER_SIZE + len(names) + booleans + len(pad_bytes) + 2 * numbers + 2 * strings
+    boolean_states = [(kind, None) for kind in boolean_kinds]
+    number_states = list(zip(number_kinds, states.number_values))
+    string_states = [(kind, contents.get(place)) for place, kind in enumerate(string_kinds)]
+    return written(states.names, (boolean_states, number_states, string_states), room)
+
+
+def written(names, states, room):
+    """The file with these names, without NUL, and these states, in a buffer of some room.
+
+    For each list, states holds the kind and the content of each state: of a present number its
+    value, of a present string its bytes.
+    """
+    boolean_states, number_states, string_states = states
+    booleans, numbers, strings = map(len, states)
+    names_size = len(names) + 1
+    pad_size = pad(names_size, booleans)
+    table_size = sum(len(content) + 1 for kind, content in string_states if kind == PRESENT)
+    size = (HEADER_SIZE + names_size + booleans + pad_size + 2 * numbers + 2 * strings
             + table_size)
     if size > LARGEST_FILE:
         raise Refusal(9)
@@ -201,22 +215,45 @@ def write(edition, states, room):
         raise Refusal(8, size)
 
     marks = {ABSENT: ABSENT_SLOT, CANCELLED: CANCELLED_SLOT}
-    number_slots = [value if kind == PRESENT else marks[kind]
-                    for kind, value in zip(number_kinds, states.number_values)]
+    number_slots = [value if kind == PRESENT else marks[kind] for kind, value in number_states]
     string_slots = []
     table = b""
-    for place, kind in enumerate(string_kinds):
+    for kind, content in string_states:
         if kind == PRESENT:
             string_slots.append(len(table))
-            table += contents[place] + b"\0"
+            table += content + b"\0"
         else:
             string_slots.append(marks[kind])
     return b"".join((
-        struct.pack("<6H", MAGIC, len(names), booleans, numbers, strings, table_size),
-        names,
-        bytes(BOOLEAN_BYTES[kind] for kind in boolean_kinds),
-        pad_bytes,
+        struct.pack("<6H", MAGIC, names_size, booleans, numbers, strings, table_size),
+        names + b"\0",
+        bytes(BOOLEAN_BYTES[kind] for kind, _ in boolean_states),
+        bytes(pad_size),
         struct.pack(f"<{numbers}H", *number_slots),
         struct.pack(f"<{strings}H", *string_slots),
         table,
     ))
+
+
+def content_state(entry, kind, place):
+    """As state, but the value of a present string is its bytes."""
+    state_kind, value = state(entry, kind, place)
+    if isinstance(value, tuple):
+        start, length = value
+        value = entry.file[start:start + length]
+    return state_kind, value
+
+
+def merge(first, second, edition, room):
+    """The file that the first file over the second gives in an edition, in some room."""
+    upper = open_entry(first, edition)
+    lower = open_entry(second, edition)
+    states = ([], [], [])
+    for kind, known in enumerate(edition):
+        for place in range(known):
+            merged = content_state(upper, kind, place)
+            if merged[0] == ABSENT:
+                merged = content_state(lower, kind, place)
+            states[kind].append(merged)
+    start, length = upper.names()
+    return written(first[start:start + length], states, room)

@@ -1,4 +1,4 @@
-/* The header in C and in C++: an entry is written, opened and asked, all through its functions. */
+/* The header in C and in C++: entries are written, opened, asked and merged by its functions. */
 #include <assert.h>
 #include <stdio.h>
 #include <string.h>
@@ -41,6 +41,45 @@ static void example(void) {
     assert(terminfo_refusal(answers[6]) == 17 && terminfo_refusal(answers[7]) == 17);
 }
 
+/* Writes an entry with one number, one state of it and no other capability; gives its length. */
+static size_t one_number(uint8_t file[32], const char *names, uint8_t kind, uint32_t value) {
+    const uint8_t none[1] = {0};
+    const size_t no_size[1] = {0};
+    return (size_t)terminfo_write(0, 1, 0, (const uint8_t *)names, strlen(names), none, 0, &kind, 1,
+                                  &value, 1, none, 0, no_size, 0, no_size, 0, none, 0, file, 32);
+}
+
+/* Merges entries of one number: a cancelled state stays, an absent one gives way. */
+static void merging(void) {
+    uint8_t present[32], cancelled[32], absent[32], merged[32];
+    size_t present_length = one_number(present, "p", TERMINFO_PRESENT, 80);
+    size_t cancelled_length = one_number(cancelled, "c|d", TERMINFO_CANCELLED, 0);
+    size_t absent_length = one_number(absent, "a", TERMINFO_ABSENT, 0);
+    uint64_t answer;
+
+    answer = terminfo_merge(cancelled, cancelled_length, present, present_length, 0, 1, 0, merged,
+                            sizeof merged);
+    assert(answer == cancelled_length && !memcmp(merged, cancelled, cancelled_length));
+    answer = terminfo_merge(present, present_length, cancelled, cancelled_length, 0, 1, 0, merged,
+                            sizeof merged);
+    assert(answer == present_length && !memcmp(merged, present, present_length));
+    answer = terminfo_merge(absent, absent_length, present, present_length, 0, 1, 0, merged,
+                            sizeof merged);
+    assert(answer == absent_length && merged[12] == 'a');
+    answer = terminfo_number(merged, absent_length, 0, 1, 0, 0);
+    assert(terminfo_kind(answer) == TERMINFO_PRESENT && terminfo_value(answer) == 80);
+    answer = terminfo_merge(absent, absent_length, cancelled, cancelled_length, 0, 1, 0, merged,
+                            sizeof merged);
+    answer = terminfo_number(merged, (size_t)terminfo_value(answer), 0, 1, 0, 0);
+    assert(terminfo_refusal(answer) == 0 && terminfo_kind(answer) == TERMINFO_CANCELLED);
+
+    answer = terminfo_merge(absent, absent_length, present, present_length, 0, 1, 0, merged, 15);
+    assert(terminfo_refusal(answer) == 8 && terminfo_value(answer) == 16);
+    answer = terminfo_merge(absent, absent_length, present, present_length - 1, 0, 1, 0, merged,
+                            sizeof merged);
+    assert(terminfo_refusal(answer) == 1);
+}
+
 /* Refusals, and the name of a capability. */
 static void refusals(void) {
     const uint8_t file[14] = {26, 1, 2, 0, 0, 0, 0, 0, 0, 0, 0, 0, 'a', 0};
@@ -66,6 +105,7 @@ static void refusals(void) {
 
 int main(void) {
     example();
+    merging();
     refusals();
 #ifdef __cplusplus
     puts("the example works in C++");

@@ -1,6 +1,7 @@
-"""Compares library and model on generated files and writer inputs, the same ones in every run.
+"""Compares library and model on generated files, writer inputs and merges, the same in every run.
 
-Fails at the first difference, and if a refusal or a kind of state that a call can give never came.
+Fails at the first difference, and if a refusal that a call can give, or a case that NEEDED names,
+never came.
 """
 
 import random
@@ -10,11 +11,12 @@ from collections import Counter
 
 import library
 import model
-from library import Reader
+from library import Reader, contents
 
 SEED = 432
 FILES = 80_000
 WRITER_INPUTS = 40_000
+MERGES = 20_000
 
 # Sizes and places that wrap or lose bits in narrower arithmetic.
 HUGE = [1 << 8, 1 << 16, 1 << 31, 1 << 32, (1 << 32) + 1, 1 << 63, (1 << 63) + 1, (1 << 64) - 2,
@@ -42,8 +44,22 @@ def upto(most):
 
 # Counting and comparing
 
+STATE_CALLS = ("boolean", "number", "string")
+STATE_KINDS = ("absent", "present", "cancelled")
+# The cases that must come besides the refusals of each call.
+NEEDED = [(call, kind) for call in STATE_CALLS for kind in STATE_KINDS]
+NEEDED += [(call, upper, "over", lower)
+           for call in STATE_CALLS for upper in STATE_KINDS for lower in STATE_KINDS]
+NEEDED += [("merge refused by the", which, number)
+           for which in ("first file", "second file") for number in range(1, 8)]
+NEEDED += [("merge refused by", what) for what in ("the edition", "both files, with two numbers")]
+NEEDED += [("merged file of", size, "bytes") for size in (4095, 4096)]
+NEEDED += [("merged file", what) for what in (
+    "with contents above 1,000 bytes", "with slots dropped", "of one file with itself",
+    "in a smaller edition", "in a smaller edition after refusal 8")]
+
 tally = Counter()
-kinds_seen = Counter()
+seen = Counter()
 
 
 def same(call, found, expected, *given):
@@ -51,11 +67,15 @@ def same(call, found, expected, *given):
     answer = found[0] if isinstance(found, tuple) else found
     tally[call, answer >> 56] += 1
     if found != expected:
-        print(f"{call} gives {show(found)}, the model {show(expected)}, for")
-        for argument in given:
-            print("   ", show(argument))
-        sys.exit(1)
+        fail(f"{call} gives {show(found)}, the model {show(expected)}, for", *given)
     return found
+
+
+def fail(what, *given):
+    print(what)
+    for argument in given:
+        print("   ", show(argument))
+    sys.exit(1)
 
 
 def show(value):
@@ -63,6 +83,8 @@ def show(value):
         return value.hex()
     if isinstance(value, int):
         return hex(value)
+    if isinstance(value, dict):
+        return "{" + ", ".join(f"{key}: {show(value[key])}" for key in value) + "}"
     if isinstance(value, (tuple, list)):
         return "[" + ", ".join(map(show, value)) + "]"
     return str(value)
@@ -128,26 +150,48 @@ def make_numbers(count):
             for _ in range(count)]
 
 
-def make_file():
-    """A file that meets the reading rules, apart from some that are too long, and its starts."""
-    counts = pick_counts()
+def make_names(size):
+    """Names of this size with their NUL."""
+    return rng.randbytes(size - 1).translate(NO_NULS) + b"\0"
+
+
+def make_booleans(count):
+    return bytes(rng.choices((0, 1, 254), k=count))
+
+
+def fixed_size(names_size, counts):
+    """The size of a file without its string table."""
     booleans, numbers, strings = counts
-    names_size = pick_names_size()
-    pad = (names_size + booleans) % 2
-    fixed = 12 + names_size + booleans + pad + 2 * numbers + 2 * strings
-    table, limit = make_table(4096 - fixed)
-    file = bytearray(struct.pack("<6H", 282, names_size, booleans, numbers, strings, len(table)))
-    file += rng.randbytes(names_size - 1).translate(NO_NULS) + b"\0"
-    file += bytes(rng.choices((0, 1, 254), k=booleans))
-    file += bytes(pad)
-    file += struct.pack(f"<{numbers}H", *make_numbers(numbers))
-    file += struct.pack(f"<{strings}H", *make_slots(strings, limit))
-    file += table
+    return (12 + names_size + booleans + (names_size + booleans) % 2 + 2 * numbers + 2 * strings)
+
+
+def build(names, booleans, numbers, slots, table):
+    """The file with these tables."""
+    file = bytearray(struct.pack("<6H", 282, len(names), len(booleans), len(numbers), len(slots),
+                                 len(table)))
+    file += names + booleans + bytes((len(names) + len(booleans)) % 2)
+    file += struct.pack(f"<{len(numbers)}H", *numbers)
+    file += struct.pack(f"<{len(slots)}H", *slots)
+    return file + table
+
+
+def counts_and_starts(file):
+    """Counts, and starts of names, booleans, pad, numbers, string slots and table, of a file."""
+    names_size, booleans, numbers, strings = struct.unpack_from("<4H", file, 2)
     starts = [12, 12 + names_size, 12 + names_size + booleans]
-    starts.append(starts[2] + pad)
+    starts.append(starts[2] + (names_size + booleans) % 2)
     starts.append(starts[3] + 2 * numbers)
     starts.append(starts[4] + 2 * strings)
-    return file, counts, starts
+    return [booleans, numbers, strings], starts
+
+
+def make_file(table_of=make_table):
+    """A file that meets the reading rules, apart from some that are too long."""
+    counts = pick_counts()
+    names_size = pick_names_size()
+    table, limit = table_of(4096 - fixed_size(names_size, counts))
+    return build(make_names(names_size), make_booleans(counts[0]), make_numbers(counts[1]),
+                 make_slots(counts[2], limit), table)
 
 
 # Damage: each takes the file and its starts: names, booleans, pad, numbers, string slots, table.
@@ -256,14 +300,22 @@ DAMAGES = [flip_bits, truncate, extend, extend_far, change_header, change_header
            change_string, change_string, drop_last_nul]
 
 
+def damage(file, times):
+    """The file after this many damages."""
+    _, starts = counts_and_starts(file)
+    damaged = bytearray(file)
+    for _ in range(times):
+        pick(*DAMAGES)(damaged, starts)
+    return bytes(damaged)
+
+
 def pick_file():
     """The bytes of a file, damaged or not, and the counts that it was made with."""
-    file, counts, starts = make_file()
+    file = make_file()
+    counts, _ = counts_and_starts(file)
     form = chance()
-    if form >= 0.45:
-        for _ in range(1 if form < 0.75 else 2 if form < 0.9 else 3):
-            pick(*DAMAGES)(file, starts)
-    return bytes(file), counts
+    times = 0 if form < 0.45 else 1 if form < 0.75 else 2 if form < 0.9 else 3
+    return damage(file, times), counts
 
 
 def too_large(edition):
@@ -312,13 +364,13 @@ def check_file(file, edition, counts):
     reader = Reader(file, edition)
     refused, _ = same("open", reader.open(), reader.model_open(), file, edition)
     same("names", reader.names(), reader.model_names(), file, edition)
-    for kind, call in enumerate(("boolean", "number", "string")):
+    for kind, call in enumerate(STATE_CALLS):
         for _ in range(2):
             place = pick_place(edition[kind], counts[kind])
             state = same(call, reader.state(kind, place), reader.model_state(kind, place), file,
                          edition, place)
             if not state >> 56:
-                kinds_seen[call, state >> 48] += 1
+                seen[call, STATE_KINDS[state >> 48]] += 1
     kinds = [pick(0, 1, 2, 2) if chance() < 0.95 else pick(3, 4, 128, 254, 255) for _ in range(8)]
     places = [pick_place(edition[kind], counts[kind]) if kind < 3 else upto(9) for kind in kinds]
     check_ask(reader, file, edition, kinds, places)
@@ -470,18 +522,16 @@ def string_with_nul(states, edition):
 
 def fit_size(states, edition):
     """Contents that make the file 4,095 to 4,098 bytes long."""
-    booleans, numbers, strings = edition
-    names = len(states["names"]) + 1
+    strings = edition[2]
     if not 4 <= strings <= 512 or len(states["string_kinds"]) < strings:
         return
-    fixed = 12 + names + booleans + (names + booleans) % 2 + 2 * numbers + 2 * strings
-    contents = pick(4095, 4096, 4096, 4097, 4098) - fixed - 4
-    if not 0 <= contents <= 4000:
+    total = pick(4095, 4096, 4096, 4097, 4098) - fixed_size(len(states["names"]) + 1, edition) - 4
+    if not 0 <= total <= 4000:
         return
     lengths = []
     for left in (4, 3, 2, 1):
-        lengths.append(min(1000, max(0, contents - 1000 * (left - 1))))
-        contents -= lengths[-1]
+        lengths.append(min(1000, max(0, total - 1000 * (left - 1))))
+        total -= lengths[-1]
     states["lent"] = b"q" * 1000
     states["string_kinds"] = bytes(rng.sample([1] * 4 + [0, 2] * (strings // 2 - 2)
                                               + [0] * (strings % 2), strings))
@@ -523,6 +573,183 @@ def check_writer(edition, states):
              library.model_write(edition, states, room), edition, *states, room)
 
 
+# Merges
+
+def make_long_table(room):
+    """As make_table, but with few NULs, so that contents can be longer than the writer's."""
+    size = min(max(0, room), pick(600, 1001, 1002, 1100, 1500, 2500, 4000))
+    table = bytearray(rng.randbytes(size).translate(NO_NULS))
+    for at in (size - pick(1, 1, 10), *(upto(size) for _ in range(pick(0, 1, 1, 3)))):
+        put_byte(table, max(0, at), 0)
+    return bytes(table), table.rfind(0) + 1
+
+
+def pick_known_edition():
+    """An edition that isn't too large."""
+    return tuple(map(min, pick_edition(), model.LARGEST_EDITION))
+
+
+def make_written():
+    """A file that the library wrote."""
+    file = None
+    while file is None:
+        edition = pick_known_edition()
+        _, file = library.write(edition, model.States(**make_states(edition)), 4096)
+    return file
+
+
+def split(total, count, most):
+    """Numbers from 1 to most, so many of them, with this total."""
+    parts = []
+    for left in range(count - 1, -1, -1):
+        least = max(1, total - most * left)
+        parts.append(least + upto(min(most, total - left) - least))
+        total -= parts[-1]
+    rng.shuffle(parts)
+    return parts
+
+
+def make_fitting(edition):
+    """Two accepted files whose merge in an edition has 4,094 to 4,098 bytes, by shared strings.
+
+    None where the edition has too few strings for that.
+    """
+    strings = edition[2]
+    names_size = pick_names_size()
+    total = pick(4094, 4095, 4096, 4096, 4097, 4097, 4098) - fixed_size(names_size, edition)
+    longest = pick(100, 1000, 1001, 1500)
+    least = -(-total // (longest + 1))
+    if strings < least:
+        return None
+    count = min(strings, least + upto(pick(0, 3, 40)))
+    slots = [pick((65535, 65535), (65535, 65534), (65534, 65535), (65534, 65534),
+                  (65534, upto(longest))) for _ in range(strings)]
+    for place, part in zip(rng.sample(range(strings), count), split(total, count, longest + 1)):
+        offset = longest + 1 - part
+        slots[place] = pick((65535, offset), (offset, 65535), (offset, 65534),
+                            (offset, upto(longest)))
+    return [make_sharing(edition, size, own_slots, longest)
+            for size, own_slots in zip((names_size, pick_names_size()), zip(*slots))]
+
+
+def make_sharing(edition, names_size, slots, longest):
+    """An accepted file with these slots, whose strings are ends of one content of the table.
+
+    Its lists may be longer or shorter than the edition's, and its table may hold unreached bytes.
+    """
+    booleans, numbers, _ = (pick(known, known + 2, upto(known)) for known in edition)
+    slots = list(slots)
+    if chance() < 0.5:
+        slots += [pick(65535, 65534, upto(longest)) for _ in range(pick(1, 3, 40))]
+    while chance() < 0.98 and slots and slots[-1] == 65535:
+        slots.pop()
+    table = rng.randbytes(longest).translate(NO_NULS) + b"\0" + rng.randbytes(pick(0, 0, 7, 100))
+    return build(make_names(names_size), make_booleans(booleans), make_numbers(numbers), slots,
+                 table)
+
+
+def make_pair():
+    """Two files, and an edition in which to merge them."""
+    if chance() < 0.3:
+        edition = pick_known_edition()
+        pair = make_fitting(edition)
+        if pair is not None:
+            return pair, edition
+    pair = []
+    for _ in range(2):
+        pair.append(make_written() if chance() < 0.35
+                    else make_file(pick(make_table, make_long_table)))
+    return pair, pick_edition(counts_and_starts(pick(*pair))[0])
+
+
+def pick_merge():
+    """Two files, each damaged or not, and an edition; one file twice now and then."""
+    pair, edition = make_pair()
+    times = pick((0, 0), (0, 0), (0, 0), (0, 0), (1, 0), (0, 1), (0, 2), (1, 1), (2, 2))
+    first, second = map(damage, pair, times)
+    return first, first if chance() < 0.03 else second, edition
+
+
+def same_merge(first, second, edition, room):
+    return same("merge", library.merge(first, second, edition, room),
+                library.model_merge(first, second, edition, room), first, second, edition, room)
+
+
+def check_merge(first, second, edition):
+    """Merging with enough room, with room around what the file needs, and in a smaller edition."""
+    _, file = same_merge(first, second, edition, pick(4096, 4097, 8000))
+    if file is None:
+        note_refused(first, second, edition)
+        if chance() < 0.2:
+            same_merge(first, second, edition, pick(0, 1, 12, 5000))
+        return
+    needed = len(file)
+    same_merge(first, second, edition,
+               pick(needed - 1, needed - 1, needed, needed, needed + 1, 0, upto(needed)))
+    note_merged(first, second, edition, file)
+    check_states(first, second, edition, file)
+    check_smaller(first, second, edition, file)
+
+
+def note_refused(first, second, edition):
+    """Counts which file makes merging be refused, if one does."""
+    numbers = [Reader(file, edition).refusal >> 56 for file in (first, second)]
+    if any(map(int.__gt__, edition, model.LARGEST_EDITION)):
+        seen["merge refused by", "the edition"] += 1
+    elif numbers[0]:
+        seen["merge refused by the", "first file", numbers[0]] += 1
+        if numbers[1] not in (0, numbers[0]):
+            seen["merge refused by", "both files, with two numbers"] += 1
+    elif numbers[1]:
+        seen["merge refused by the", "second file", numbers[1]] += 1
+
+
+def note_merged(first, second, edition, file):
+    """Counts the cases that a merged file belongs to."""
+    seen["merged file of", len(file), "bytes"] += 1
+    if first is second:
+        seen["merged file", "of one file with itself"] += 1
+    counts, _ = counts_and_starts(first)
+    if any(map(int.__gt__, counts, edition)):
+        seen["merged file", "with slots dropped"] += 1
+
+
+def check_states(first, second, edition, file):
+    """As the library reads them: a merged state is the first file's, where absent the second's."""
+    names, upper = contents(first, edition)
+    _, lower = contents(second, edition)
+    merged = {}
+    for at, state in upper.items():
+        other = lower[at]
+        merged[at] = other if state[0] == model.ABSENT else state
+        seen[STATE_CALLS[at[0]], STATE_KINDS[state[0]], "over", STATE_KINDS[other[0]]] += 1
+        if at[0] == model.STRING and len(merged[at][1] or b"") > model.LARGEST_STRING:
+            seen["merged file", "with contents above 1,000 bytes"] += 1
+    found = contents(file, edition)
+    if found != (names, merged):
+        fail("the merged file is read as", found, "for", first, second, edition)
+
+
+def check_smaller(first, second, edition, file):
+    """A smaller edition reads in the merged file what its own merge gives.
+
+    That merge is refused, if at all, with 8.
+    """
+    smaller = tuple(pick(known, upto(known), upto(known)) for known in edition)
+    answer, own = same_merge(first, second, smaller, pick(len(file), len(file), upto(len(file))))
+    if own is not None:
+        seen["merged file", "in a smaller edition"] += 1
+    elif answer >> 56 == 8:
+        seen["merged file", "in a smaller edition after refusal 8"] += 1
+        answer, own = same_merge(first, second, smaller, answer - library.pack(8))
+    if own is None:
+        fail(f"merging in a smaller edition is refused {answer >> 56} for", first, second, smaller)
+    found = contents(own, smaller)
+    if found is None or found != contents(file, smaller):
+        fail("what a smaller edition reads in the merged file is not what its own merge gives, for",
+             first, second, edition, smaller)
+
+
 def check_capabilities():
     """Every name of the lists, places beyond them, and kinds that are none."""
     for kind in range(256):
@@ -541,13 +768,13 @@ def report():
             f"{'refusal ' + str(number) if number else 'success'} {tally[call, number]}"
             for number in refusals))
         missing += [f"{call} refusal {number}" for number in refusals if not tally[call, number]]
-    for call in ("boolean", "number", "string"):
-        for kind, name in enumerate(("absent", "present", "cancelled")):
-            if not kinds_seen[call, kind]:
-                missing.append(f"{call} {name}")
+    for words in NEEDED:
+        print(" ".join(map(str, words)) + f": {seen[words]}")
+    missing += [" ".join(map(str, words)) for words in NEEDED if not seen[words]]
     if missing:
         sys.exit("never seen: " + ", ".join(missing))
-    print(f"{FILES + WRITER_INPUTS} generated inputs, {sum(tally.values())} answers, no difference")
+    print(f"{FILES + WRITER_INPUTS + MERGES} generated inputs, {sum(tally.values())} answers, "
+          "no difference")
 
 
 if __name__ == "__main__":
@@ -557,4 +784,6 @@ if __name__ == "__main__":
         check_file(file, pick_edition(counts), counts)
     for _ in range(WRITER_INPUTS):
         check_writer(*pick_writer_input())
+    for _ in range(MERGES):
+        check_merge(*pick_merge())
     report()

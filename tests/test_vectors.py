@@ -93,6 +93,17 @@ def run_state():
     return count
 
 
+def check_written(where, found, by_model, out):
+    """Holds the answer and the file of a call that writes one to what a vector states."""
+    if out["number"]:
+        expected = refusal(out), None
+    else:
+        file = bytes_of(out["outcome"])
+        expected = len(file), file
+    same(found, expected, where)
+    same(by_model, expected, where + " (model)")
+
+
 def run_write():
     """Writes each file."""
     count = 0
@@ -102,19 +113,23 @@ def run_write():
             column or empty for column, empty in zip(columns, (2 * [()], 2 * [()], 3 * [()])))
         states = model.States(bytes_of(given["names"]), bytes(boolean_kinds), bytes(number_kinds),
                               values, bytes(string_kinds), starts, lengths, bytes_of(given["pool"]))
-        found = library.write(given["edition"], states, given["room"])
-        if out["number"]:
-            expected = refusal(out), None
-        else:
-            file = bytes_of(out["outcome"])
-            expected = len(file), file
-        same(found, expected, where)
-        same(library.model_write(given["edition"], states, given["room"]), expected,
-             where + " (model)")
+        arguments = given["edition"], states, given["room"]
+        check_written(where, library.write(*arguments), library.model_write(*arguments), out)
+        count += 1
+    return count
+
+
+def run_merge():
+    """Merges the files of each line."""
+    count = 0
+    for where, given, out in lines("merge"):
+        arguments = (bytes_of(given["file_a"]), bytes_of(given["file_b"]), given["edition"],
+                     given["room"])
+        check_written(where, library.merge(*arguments), library.model_merge(*arguments), out)
         count += 1
     return count
 
 
 if __name__ == "__main__":
-    counts = {run.__name__[4:]: run() for run in (run_open, run_state, run_write)}
+    counts = {run.__name__[4:]: run() for run in (run_open, run_state, run_write, run_merge)}
     print(", ".join(f"{name} {count}" for name, count in counts.items()), "answers as stated")
