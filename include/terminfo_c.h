@@ -1,4 +1,5 @@
-/* The terminfo library for C and C++: compiled entries are opened, asked, written and merged.
+/* The terminfo library for C and C++: compiled entries are opened, asked, written and merged, and
+ * parameterized strings are expanded.
  *
  * An edition is three counts, of booleans (at most 64), numbers (at most 64) and strings (at most
  * 512); it knows the places below its counts in the three ordered lists of capabilities. The first
@@ -7,7 +8,8 @@
  * Every call returns 64 bits. Bits 56 to 63 hold the number of the refusal, 0 for success; the
  * bits below hold what the call or the refusal gives, and are 0 where it gives nothing.
  *
- *     1   the file is shorter than 12 bytes, longer than 4,096 or not as long as its header says
+ *     1   the file is shorter than 12 bytes, longer than 4,096 or not as long as its header says,
+ *         or the string to be expanded is longer than 1,000 bytes
  *     2   the file does not begin with the magic number 282
  *     3   a header short is above 32,767, the names size is outside 2 to 128, the edition is too
  *         large, or the writer is given fewer states than the edition counts
@@ -17,12 +19,17 @@
  *     6   a number slot is above 32,767 and neither 65,535 nor 65,534
  *     7   a string slot is no offset of a string in the table and neither 65,535 nor 65,534, or a
  *         string given to the writer is not in the bytes that were lent
- *     8   the buffer is shorter than the file to be written; bits 0 to 55 give the file's length
+ *     8   the buffer is shorter than the file to be written, or has too little room for the output
+ *         of an expansion; bits 0 to 55 give the length of the file or output
  *     9   the file to be written is longer than 4,096 bytes
  *     13  the writer is given a state of no kind, a number above 32,767, or a string that is longer
  *         than 1,000 bytes or holds a NUL
- *     17  the place is beyond the edition or the list, there is no such kind of capability, or
- *         opening refuses the file
+ *     14  the string to be expanded is malformed; bits 0 to 55 give the place of the first wrong
+ *         item, or the string's length where a conditional is not closed
+ *     15  an item finds too few values on the stack; bits 0 to 55 give the item's place
+ *     16  an item finds no room on the stack of 20 values; bits 0 to 55 give the item's place
+ *     17  the place is beyond the edition, the list or the buffer's length, there is no such kind
+ *         of capability, or opening refuses the file
  *
  * A refused call changes nothing that was lent to it.
  *
@@ -52,15 +59,20 @@ static inline unsigned terminfo_refusal(uint64_t answer) { return (unsigned)(ans
 /* The kind of state in the answer of terminfo_boolean, terminfo_number or terminfo_string. */
 static inline unsigned terminfo_kind(uint64_t answer) { return (unsigned)(answer >> 48) & 255u; }
 
-/* The number's value in the answer of terminfo_number, or the file's length in that of
- * terminfo_write or terminfo_merge (success, or refusal 8). */
+/* The number's value in the answer of terminfo_number, the file's length in that of terminfo_write
+ * or terminfo_merge (success, or refusal 8), or what a refusal of terminfo_expand gives: the
+ * output's length (8) or an item's place (14, 15, 16). */
 static inline uint64_t terminfo_value(uint64_t answer) { return answer & 0xFFFFFFFFFFFFu; }
 
 /* Where the part of the file starts that terminfo_names or terminfo_string gives. */
 static inline size_t terminfo_start(uint64_t answer) { return (size_t)(answer >> 24) & 0xFFFFFFu; }
 
-/* How many bytes the part of the file has that terminfo_names or terminfo_string gives. */
+/* How many bytes the part of the file has that terminfo_names or terminfo_string gives, or the
+ * output of terminfo_expand. */
 static inline size_t terminfo_length(uint64_t answer) { return (size_t)answer & 0xFFFFFFu; }
+
+/* How many items terminfo_expand took. */
+static inline size_t terminfo_steps(uint64_t answer) { return (size_t)(answer >> 24) & 0xFFFFFFu; }
 
 /* Opens a file: checks all of it and tells where its tables are.
  *
@@ -193,6 +205,42 @@ uint64_t terminfo_merge(const uint8_t *first, size_t first_length, const uint8_t
  * Success gives the bytes of the name in bits 0 to 55, the first byte lowest, and zero bytes after
  * the last one. Refusal 17: the place is beyond the list, or there is no such kind. */
 uint64_t terminfo_capability(uint8_t kind, size_t place);
+
+/* Expands a parameterized string and writes the output into the buffer from a place on.
+ *
+ * string, string_length  the string, at most 1,000 bytes. A delay such as $<5> in it is text.
+ * arguments              the nine arguments %p1 to %p9; those that the string does not use may have
+ *                        any value. %i changes them within the call only.
+ * lasting                the variables A to Z, lasting[0] is A; on success changed in place. The
+ *                        variables a to z start at 0 in each call.
+ * buffer, buffer_length  takes the output; its bytes before the place and past the output stay.
+ * at                     the place of the output's first byte, at most buffer_length.
+ *
+ * The items are bytes other than NUL and percent sign, which stand for themselves, and
+ *     %%                        a percent sign;
+ *     %p1 to %p9                pushes an argument;
+ *     %d %o %x %X               pops a value and prints it, with a width of 1 to 99, and a 0 before
+ *                               the width to fill with zeros: %3d, %02x;
+ *     %c                        pops a value and prints it mod 256 as one byte;
+ *     %'b' %{digits}            pushes a byte other than NUL, or a number of at most 2,147,483,647;
+ *     %Pa %ga, %PA %gA          pops into a variable, pushes a variable;
+ *     %+ %- %* %/ %m            pop two values and push the result in 32 bits, the value popped
+ *                               last on the left; a zero divisor gives 0;
+ *     %& %| %^ %~               the same for the bits of two values, or of one;
+ *     %= %> %< %A %O %!         the same for comparisons, and, or, not; they give 1 or 0;
+ *     %i                        adds 1 to the first two arguments;
+ *     %? .. %t .. %e .. %;      a conditional: %t pops a value and on 0 goes past the next %e, or
+ *                               the %; if there is none; a reached %e goes past the %;. After %e
+ *                               may come another condition with its %t. At most 16 stand within
+ *                               each other.
+ *
+ * Success gives the steps, which are the items taken, times 2^24 plus the output's length
+ * (terminfo_steps, terminfo_length). Refusals, the first that applies: 17 (at is above
+ * buffer_length), 1 (above 1,000 bytes), 14 (gives the place of the first wrong item, or the
+ * string's length for an open conditional), 15 and 16 (give the place of the item at which the
+ * expansion stops), 8 (gives the output's length: terminfo_value). */
+uint64_t terminfo_expand(const uint8_t *string, size_t string_length, const int32_t arguments[9],
+                         int32_t lasting[26], uint8_t *buffer, size_t buffer_length, size_t at);
 
 #ifdef __cplusplus
 }

@@ -2,7 +2,8 @@
 -- Assumes nothing.
 use mathlib.Core.Path.{_≡_}
 use mathlib.Core.List.{List, [], _∷_}
-use Prim.Native.Nat.{ℕ, _+_, _*_, _^_, _≤_, _<_}
+use Prim.Native.Nat.{ℕ, _+_, _*_, _%_, _^_, _≤_}
+use lib.IntN.{ℤ}
 use lib.Dec.{eqb}
 use lib.ListN.{length, getD}
 use Rattle.base.specs.If.{if_then_else_}
@@ -21,11 +22,12 @@ use Rattle.entry.specs.declared.Written.the-variants as W
 use Rattle.entry.specs.declared.Merged.{Merged}
 use Rattle.entry.specs.declared.Merged.the-variants as G
 use Rattle.entry.specs.Limits.{fileMost}
-use Rattle.entry.specs.Answer.{Answer, refused, gives, isGiven, bufferAfter}
+use Rattle.entry.specs.Answer.{Answer, refused, gives, mapAnswer, isGiven, bufferAfter}
 use Rattle.entry.specs.Asking.{Opening, opening, askingBoolean, askingNumber, askingString}
 use Rattle.entry.specs.Writing.{Handed, writing}
 use Rattle.entry.specs.Merging.{merging}
 use Rattle.names.specs.Naming.{naming}
+use Rattle.expansion.specs.Expanding.{Expanding, Counts, counted, lastingAfter, outputAfter}
 
 abbrev pub edition : ℕ → ℕ → ℕ → Edition
 edition b n s = record { booleans = b; numbers = n; strings = s }
@@ -110,6 +112,20 @@ pub record WrittenNumber (e : Edition) (h : Handed) (before after : List ℕ) (r
 pub record MergedNumber (e : Edition) (a b : List ℕ) (before after : List ℕ) (r : ℕ) : Type 0 where
   pub number : r ≡ numbered length (merging e a b (length before))
   pub buffer : after ≡ bufferAfter before (merging e a b (length before))
+
+-- ---- expansion
+
+-- the refusal's number above the first value that it gives; or the steps above the output's length, in 24 bits each. A string has at most
+-- 1,000 items, so that values, steps and lengths are far below these bounds
+unfoldable pub expansionNumber : Answer Counts → ℕ
+expansionNumber (refused n v) = n * 2 ^ 56 + getD v 0 0 % 2 ^ 56
+expansionNumber (gives c) = c .steps % 2 ^ 24 * 2 ^ 24 + c .length % 2 ^ 24
+
+-- the number, the lasting variables and the buffer that expanding leaves
+pub record ExpandedNumber (a : Answer Expanding) (before after : List ℤ) (b : List ℕ) (at : ℕ) (b′ : List ℕ) (r : ℕ) : Type 0 where
+  pub number : r ≡ expansionNumber (mapAnswer counted a)
+  pub lasting : after ≡ lastingAfter before a
+  pub output : b′ ≡ outputAfter b at a
 
 -- ---- what keeps the numbers below their bits: parts lie in a file, and so does what is written
 

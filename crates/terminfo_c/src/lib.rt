@@ -2,14 +2,17 @@
 // top byte, 0 for success, and below it what the refusal or the call gives. Proved: each says as much as the call that it passes on.
 // Assumed: nothing.
 ghost use mathlib.Core.Path.{_≡_};
+ghost use lib.ListN.{length};
 ghost use Rattle.entry.specs.Answer.{mapAnswer};
 ghost use Rattle.entry.specs.Asking.{opening, askingNames};
 ghost use Rattle.writer.specs.Handed.{handed};
-ghost use Rattle.terminfo_c.specs.Numbers.{edition, numbered, none, partCode, arrayAfter, openingArray, booleanNumber, numberNumber, stringNumber, asking8, namingBy, WrittenNumber, MergedNumber};
+ghost use Rattle.expansion.specs.Expanding.{expanding};
+ghost use Rattle.terminfo_c.specs.Numbers.{edition, numbered, none, partCode, arrayAfter, openingArray, booleanNumber, numberNumber, stringNumber, asking8, namingBy, WrittenNumber, MergedNumber, ExpandedNumber};
 use caps::Edition;
 use caps::Kind;
 use caps::Place;
 use entry::Opened;
+use expansion::Lasting;
 use names::Name;
 
 mod numbers;
@@ -236,4 +239,26 @@ pub extern "C" fn terminfo_capability(kind: u8, place: usize) -> u64
         return numbers::name_number(names::name_of(Kind::String, Place(place)));
     }
     17 * numbers::TOP
+}
+
+// Expands a string into the buffer from place at on: the steps above the output's length, or the refusal. The lasting variables change in
+// place.
+#[no_mangle]
+pub extern "C" fn terminfo_expand(
+    string: &[u8],
+    arguments: &[i32; 9],
+    lasting: &mut [i32; 26],
+    buffer: &mut [u8],
+    at: usize,
+) -> u64
+    ensures { λ r. ⌜ ExpandedNumber (expanding (now (string .entry)) (now (arguments .entry)) (now (lasting .entry)) (length (now (buffer .entry))) at) (now (lasting .entry)) (now (lasting .exit)) (now (buffer .entry)) at (now (buffer .exit)) r ⌝ }
+{
+    let nine = *arguments;
+    let before = *lasting;
+    let e = expand::expand(string, nine, Lasting { values: before }, buffer, at);
+    let after = e.lasting;
+    let values = after.values;
+    *lasting = values;
+    let answer = e.answer;
+    numbers::expansion_number(answer)
 }

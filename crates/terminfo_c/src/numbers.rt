@@ -6,7 +6,8 @@ ghost use Rattle.base.specs.Tabulate.{tabulate};
 ghost use Rattle.entry.specs.Asking.{opening};
 ghost use Rattle.entry.specs.Says.{saysOpened, saysNames, saysBoolean, saysNumber, saysString, saysWritten, saysMerged, fileNumber};
 ghost use Rattle.names.specs.Naming.{saysName};
-ghost use Rattle.terminfo_c.specs.Numbers.{numbered, none, booleanCode, numberCode, stringCode, partCode, openingArray, askedCode, NamesWithin, StringWithin, WrittenWithin, MergedWithin};
+ghost use Rattle.expansion.specs.Expanding.{saysExpansion};
+ghost use Rattle.terminfo_c.specs.Numbers.{numbered, none, booleanCode, numberCode, stringCode, partCode, openingArray, askedCode, NamesWithin, StringWithin, WrittenWithin, MergedWithin, expansionNumber};
 use caps::Edition;
 use caps::Place;
 use entry::Beyond;
@@ -20,6 +21,7 @@ use entry::Part;
 use entry::StringState;
 use entry::Tables;
 use entry::Written;
+use expansion::Expansion;
 use names::Name;
 
 // A refusal's number stands in the top byte.
@@ -138,6 +140,21 @@ pub fn name_number(n: Name) -> u64
     match n {
         Name::Packed(w) => w,
         Name::Beyond => 17 * TOP,
+    }
+}
+
+pub fn expansion_number(e: Expansion) -> u64
+    ensures { λ r. ⌜ r ≡ expansionNumber (saysExpansion e) ⌝ }
+{
+    match e {
+        Expansion::Done { length, steps } => (steps as u64) % START * START
+            + (length as u64) % START,
+        Expansion::Place => 17 * TOP,
+        Expansion::Length => TOP,
+        Expansion::Malformed(i) => 14 * TOP + (i as u64) % TOP,
+        Expansion::Empty(i) => 15 * TOP + (i as u64) % TOP,
+        Expansion::Full(i) => 16 * TOP + (i as u64) % TOP,
+        Expansion::Room(n) => 8 * TOP + (n as u64) % TOP,
     }
 }
 

@@ -1,0 +1,19 @@
+-- What the call that expands a string promises.
+-- Assumes nothing.
+use mathlib.Core.Path.{_≡_}
+use mathlib.Core.List.{List}
+use Prim.Native.Nat.{ℕ}
+use lib.IntN.{ℤ}
+use Rattle.entry.specs.Answer.{Answer, mapAnswer}
+use Rattle.expansion.specs.declared.Expansion.{Expansion}
+use Rattle.expansion.specs.declared.Expanded.{Expanded}
+use Rattle.expansion.specs.Expanding.{Expanding, counted, saysExpansion, lastingAfter, outputAfter}
+
+abbrev pub answering : Expansion → List ℤ → Expanded
+answering x v = record { answer = x; lasting = record { values = v } }
+
+-- a call that comes to a, with these lasting variables before, over a buffer with bytes b before and b′ after, answers r
+pub record ExpandedAs (a : Answer Expanding) (before : List ℤ) (b : List ℕ) (at : ℕ) (b′ : List ℕ) (r : Expanded) : Type 0 where
+  pub answer : saysExpansion (r .answer) ≡ mapAnswer counted a
+  pub lasting : r .lasting .values ≡ lastingAfter before a
+  pub output : b′ ≡ outputAfter b at a

@@ -1,0 +1,498 @@
+// The items of a parameterized string (document 01: Expansion). Proved: `item_at` and `class_at` are itemAt and classAt of the crate
+// expansion at each place of each string. Assumed: nothing.
+use expansion::Base;
+use expansion::Class;
+use expansion::Classed;
+use expansion::Item;
+use expansion::Lexed;
+use expansion::Operator;
+ghost use mathlib.Core.Path.{_≡_};
+ghost use mathlib.Core.Bool.{Bool};
+ghost use Prim.Native.Nat.{ℕ, _+_, _≤_, _<_};
+ghost use lib.ListN.{length};
+ghost use Rattle.expansion.specs.Items.{byteAt, isDigit, isNonzero, isLetter, lexed, argumentAt, quotedAt, bracedAt, storeAt, loadAt, formatAt, widthAt, percentAt, itemAt};
+ghost use Rattle.expansion.specs.Form.{classAt};
+ghost use Rattle.expansion.specs.declared.Item.the-variants.{Number};
+ghost use Rattle.items.specs.Classes.{itemClass, quoted, lexedConstant, otherAt};
+
+// The largest constant.
+const CONSTANT_MOST: u64 = 2147483647;
+
+// The byte at a place, or NUL past the end.
+fn byte_at(s: &[u8], i: usize) -> u8
+    ensures { λ r. ⌜ r ≡ byteAt (now (s .entry)) i ⌝ }
+{
+    if i < s.len() { s[i] } else { 0 }
+}
+
+fn is_digit(c: u8) -> bool
+    ensures { λ r. ⌜ r ≡ isDigit c ⌝ }
+{
+    48 <= c && c <= 57
+}
+
+fn is_nonzero(c: u8) -> bool
+    ensures { λ r. ⌜ r ≡ isNonzero c ⌝ }
+{
+    49 <= c && c <= 57
+}
+
+fn is_letter(c: u8) -> bool
+    ensures { λ r. ⌜ r ≡ isLetter c ⌝ }
+{
+    if 97 <= c {
+        return c <= 122;
+    }
+    65 <= c && c <= 90
+}
+
+// A constant in braces and the place behind it, or none.
+enum Braced {
+    Constant { value: i32, next: usize },
+    Wrong,
+}
+
+// `%{digits}`
+fn braced_at(s: &[u8], j: usize) -> Braced
+    requires { ⌜ j ≤ length (now s) ⌝ }
+    ensures { λ r. ⌜ lexedConstant r j ≡ bracedAt (now (s .entry)) j ⌝ }
+{
+    if !is_digit(byte_at(s, j + 1)) {
+        return Braced::Wrong;
+    }
+    let mut i = j + 1;
+    let mut v: u64 = 0;
+    while i < s.len() {
+        let c = s[i];
+        if c == b'}' {
+            return Braced::Constant {
+                value: v as i32,
+                next: i + 1,
+            };
+        }
+        if !is_digit(c) {
+            return Braced::Wrong;
+        }
+        v = v * 10 + (c - 48) as u64;
+        if v > CONSTANT_MOST {
+            return Braced::Wrong;
+        }
+        i += 1;
+    }
+    Braced::Wrong
+}
+
+// Whether the two bytes behind `%'` are a byte that is no NUL and `'`.
+fn is_quoted(s: &[u8], j: usize) -> bool
+    requires { ⌜ j ≤ length (now s) ⌝ }
+    ensures { λ r. ⌜ r ≡ quoted (now (s .entry)) j ⌝ }
+{
+    if byte_at(s, j + 1) == 0 {
+        return false;
+    }
+    byte_at(s, j + 2) == 39
+}
+
+// ---- items
+
+fn lexed(item: Item, next: usize) -> Lexed
+    ensures { λ r. ⌜ r ≡ lexed item next ⌝ }
+{
+    Lexed {
+        item: item,
+        next: next,
+    }
+}
+
+fn number(base: Base, zero: bool, width: u8, next: usize) -> Lexed
+    ensures { λ r. ⌜ r ≡ lexed (Number base zero width) next ⌝ }
+{
+    Lexed {
+        item: Item::Number {
+            base: base,
+            zero: zero,
+            width: width,
+        },
+        next: next,
+    }
+}
+
+// `%p1` to `%p9`
+fn argument_at(s: &[u8], j: usize) -> Lexed
+    requires { ⌜ j ≤ length (now s) ⌝ }
+    ensures { λ r. ⌜ r ≡ argumentAt (now (s .entry)) j ⌝ }
+{
+    let d = byte_at(s, j + 1);
+    if is_nonzero(d) {
+        Lexed {
+            item: Item::Argument((d - 49) as usize),
+            next: j + 2,
+        }
+    } else {
+        Lexed {
+            item: Item::Wrong,
+            next: j,
+        }
+    }
+}
+
+// `%'b'`
+fn quoted_at(s: &[u8], j: usize) -> Lexed
+    requires { ⌜ j ≤ length (now s) ⌝ }
+    ensures { λ r. ⌜ r ≡ quotedAt (now (s .entry)) j ⌝ }
+{
+    if is_quoted(s, j) {
+        Lexed {
+            item: Item::Constant(byte_at(s, j + 1) as i32),
+            next: j + 3,
+        }
+    } else {
+        Lexed {
+            item: Item::Wrong,
+            next: j,
+        }
+    }
+}
+
+fn constant_at(s: &[u8], j: usize) -> Lexed
+    requires { ⌜ j ≤ length (now s) ⌝ }
+    ensures { λ r. ⌜ r ≡ bracedAt (now (s .entry)) j ⌝ }
+{
+    match braced_at(s, j) {
+        Braced::Constant { value, next } => Lexed {
+            item: Item::Constant(value),
+            next: next,
+        },
+        Braced::Wrong => Lexed {
+            item: Item::Wrong,
+            next: j,
+        },
+    }
+}
+
+// `%P` with a letter
+fn store_at(s: &[u8], j: usize) -> Lexed
+    requires { ⌜ j ≤ length (now s) ⌝ }
+    ensures { λ r. ⌜ r ≡ storeAt (now (s .entry)) j ⌝ }
+{
+    let d = byte_at(s, j + 1);
+    if is_letter(d) {
+        Lexed {
+            item: Item::Store(d),
+            next: j + 2,
+        }
+    } else {
+        Lexed {
+            item: Item::Wrong,
+            next: j,
+        }
+    }
+}
+
+// `%g` with a letter
+fn load_at(s: &[u8], j: usize) -> Lexed
+    requires { ⌜ j ≤ length (now s) ⌝ }
+    ensures { λ r. ⌜ r ≡ loadAt (now (s .entry)) j ⌝ }
+{
+    let d = byte_at(s, j + 1);
+    if is_letter(d) {
+        Lexed {
+            item: Item::Load(d),
+            next: j + 2,
+        }
+    } else {
+        Lexed {
+            item: Item::Wrong,
+            next: j,
+        }
+    }
+}
+
+// The letter of a number's format, whose fill and width stand before it.
+fn format_at(s: &[u8], k: usize, zero: bool, width: u8) -> Lexed
+    requires { ⌜ k ≤ length (now s) + 3 ⌝ }
+    ensures { λ r. ⌜ r ≡ formatAt (now (s .entry)) k zero width ⌝ }
+{
+    let c = byte_at(s, k);
+    let next = k + 1;
+    match c {
+        b'd' => number(Base::Decimal, zero, width, next),
+        b'o' => number(Base::Octal, zero, width, next),
+        b'x' => number(Base::SmallHex, zero, width, next),
+        b'X' => number(Base::CapitalHex, zero, width, next),
+        _ => lexed(Item::Wrong, k),
+    }
+}
+
+// A width: one or two digits whose first is 1 to 9.
+fn width_at(s: &[u8], k: usize, zero: bool) -> Lexed
+    requires { ⌜ k ≤ length (now s) + 1 ⌝ }
+    ensures { λ r. ⌜ r ≡ widthAt (now (s .entry)) k zero ⌝ }
+{
+    let c = byte_at(s, k);
+    if !is_nonzero(c) {
+        return lexed(Item::Wrong, k);
+    }
+    let d = byte_at(s, k + 1);
+    if is_digit(d) {
+        format_at(s, k + 2, zero, (c - 48) * 10 + (d - 48))
+    } else {
+        format_at(s, k + 1, zero, c - 48)
+    }
+}
+
+// The item whose second byte starts no other item: a fill or a width starts a number's format.
+fn other_at(s: &[u8], j: usize) -> Lexed
+    requires { ⌜ j ≤ length (now s) ⌝ }
+    ensures { λ r. ⌜ r ≡ otherAt (now (s .entry)) j ⌝ }
+{
+    let c = byte_at(s, j);
+    if c == b'0' {
+        return width_at(s, j + 1, true);
+    }
+    if is_nonzero(c) {
+        return width_at(s, j, false);
+    }
+    Lexed {
+        item: Item::Wrong,
+        next: j + 1,
+    }
+}
+
+// The item whose second byte is at a place.
+fn percent_at(s: &[u8], j: usize) -> Lexed
+    requires { ⌜ j ≤ length (now s) ⌝ }
+    ensures { λ r. ⌜ r ≡ percentAt (now (s .entry)) j ⌝ }
+{
+    let c = byte_at(s, j);
+    let next = j + 1;
+    match c {
+        b'p' => argument_at(s, j),
+        39 => quoted_at(s, j),
+        b'{' => constant_at(s, j),
+        b'P' => store_at(s, j),
+        b'g' => load_at(s, j),
+        b'%' => lexed(Item::Byte(37), next),
+        b'c' => lexed(Item::Character, next),
+        b'd' => number(Base::Decimal, false, 0, next),
+        b'o' => number(Base::Octal, false, 0, next),
+        b'x' => number(Base::SmallHex, false, 0, next),
+        b'X' => number(Base::CapitalHex, false, 0, next),
+        b'+' => lexed(Item::Binary(Operator::Add), next),
+        b'-' => lexed(Item::Binary(Operator::Subtract), next),
+        b'*' => lexed(Item::Binary(Operator::Multiply), next),
+        b'/' => lexed(Item::Binary(Operator::Divide), next),
+        b'm' => lexed(Item::Binary(Operator::Remainder), next),
+        b'&' => lexed(Item::Binary(Operator::BitAnd), next),
+        b'|' => lexed(Item::Binary(Operator::BitOr), next),
+        b'^' => lexed(Item::Binary(Operator::BitXor), next),
+        b'=' => lexed(Item::Binary(Operator::Equal), next),
+        b'>' => lexed(Item::Binary(Operator::Greater), next),
+        b'<' => lexed(Item::Binary(Operator::Less), next),
+        b'A' => lexed(Item::Binary(Operator::And), next),
+        b'O' => lexed(Item::Binary(Operator::Or), next),
+        b'!' => lexed(Item::Not, next),
+        b'~' => lexed(Item::Invert, next),
+        b'i' => lexed(Item::Increment, next),
+        b'?' => lexed(Item::If, next),
+        b't' => lexed(Item::Then, next),
+        b'e' => lexed(Item::Else, next),
+        b';' => lexed(Item::End, next),
+        _ => other_at(s, j),
+    }
+}
+
+// The item that starts at a place.
+pub fn item_at(s: &[u8], i: usize) -> Lexed
+    requires { ⌜ i < length (now s) ⌝ }
+    ensures { λ r. ⌜ r ≡ itemAt (now (s .entry)) i ⌝ }
+{
+    let c = s[i];
+    if c == 0 {
+        return Lexed {
+            item: Item::Wrong,
+            next: i + 1,
+        };
+    }
+    if c == b'%' {
+        return percent_at(s, i + 1);
+    }
+    Lexed {
+        item: Item::Byte(c),
+        next: i + 1,
+    }
+}
+
+// ---- classes
+
+fn classed(class: Class, next: usize) -> Classed
+    ensures { λ r. ⌜ r ≡ record { class = class; next = next } ⌝ }
+{
+    Classed {
+        class: class,
+        next: next,
+    }
+}
+
+fn format_class(s: &[u8], k: usize) -> Classed
+    requires { ⌜ k ≤ length (now s) + 3 ⌝ }
+    ensures { λ r. ⌜ ((zero : Bool) (width : ℕ) → r ≡ itemClass (formatAt (now (s .entry)) k zero width)) ⌝ }
+{
+    let c = byte_at(s, k);
+    let next = k + 1;
+    match c {
+        b'd' | b'o' | b'x' | b'X' => Classed {
+            class: Class::Plain,
+            next: next,
+        },
+        _ => Classed {
+            class: Class::Wrong,
+            next: k,
+        },
+    }
+}
+
+fn width_class(s: &[u8], k: usize) -> Classed
+    requires { ⌜ k ≤ length (now s) + 1 ⌝ }
+    ensures { λ r. ⌜ ((zero : Bool) → r ≡ itemClass (widthAt (now (s .entry)) k zero)) ⌝ }
+{
+    if !is_nonzero(byte_at(s, k)) {
+        return Classed {
+            class: Class::Wrong,
+            next: k,
+        };
+    }
+    if is_digit(byte_at(s, k + 1)) {
+        format_class(s, k + 2)
+    } else {
+        format_class(s, k + 1)
+    }
+}
+
+fn quoted_class(s: &[u8], j: usize) -> Classed
+    requires { ⌜ j ≤ length (now s) ⌝ }
+    ensures { λ r. ⌜ r ≡ itemClass (quotedAt (now (s .entry)) j) ⌝ }
+{
+    if is_quoted(s, j) {
+        Classed {
+            class: Class::Plain,
+            next: j + 3,
+        }
+    } else {
+        Classed {
+            class: Class::Wrong,
+            next: j,
+        }
+    }
+}
+
+fn constant_class(s: &[u8], j: usize) -> Classed
+    requires { ⌜ j ≤ length (now s) ⌝ }
+    ensures { λ r. ⌜ r ≡ itemClass (bracedAt (now (s .entry)) j) ⌝ }
+{
+    match braced_at(s, j) {
+        Braced::Constant { value: _, next } => Classed {
+            class: Class::Plain,
+            next: next,
+        },
+        Braced::Wrong => Classed {
+            class: Class::Wrong,
+            next: j,
+        },
+    }
+}
+
+fn variable_class(s: &[u8], j: usize) -> Classed
+    requires { ⌜ j ≤ length (now s) ⌝ }
+    ensures { λ r. ⌜ (r ≡ itemClass (storeAt (now (s .entry)) j)) × (r ≡ itemClass (loadAt (now (s .entry)) j)) ⌝ }
+{
+    if is_letter(byte_at(s, j + 1)) {
+        Classed {
+            class: Class::Plain,
+            next: j + 2,
+        }
+    } else {
+        Classed {
+            class: Class::Wrong,
+            next: j,
+        }
+    }
+}
+
+fn argument_class(s: &[u8], j: usize) -> Classed
+    requires { ⌜ j ≤ length (now s) ⌝ }
+    ensures { λ r. ⌜ r ≡ itemClass (argumentAt (now (s .entry)) j) ⌝ }
+{
+    if is_nonzero(byte_at(s, j + 1)) {
+        Classed {
+            class: Class::Plain,
+            next: j + 2,
+        }
+    } else {
+        Classed {
+            class: Class::Wrong,
+            next: j,
+        }
+    }
+}
+
+fn other_class(s: &[u8], j: usize) -> Classed
+    requires { ⌜ j ≤ length (now s) ⌝ }
+    ensures { λ r. ⌜ r ≡ itemClass (otherAt (now (s .entry)) j) ⌝ }
+{
+    let c = byte_at(s, j);
+    if c == b'0' {
+        return width_class(s, j + 1);
+    }
+    if is_nonzero(c) {
+        return width_class(s, j);
+    }
+    Classed {
+        class: Class::Wrong,
+        next: j + 1,
+    }
+}
+
+// The class of the item whose second byte is at a place.
+fn percent_class(s: &[u8], j: usize) -> Classed
+    requires { ⌜ j ≤ length (now s) ⌝ }
+    ensures { λ r. ⌜ r ≡ itemClass (percentAt (now (s .entry)) j) ⌝ }
+{
+    let c = byte_at(s, j);
+    let next = j + 1;
+    match c {
+        b'p' => argument_class(s, j),
+        39 => quoted_class(s, j),
+        b'{' => constant_class(s, j),
+        b'P' | b'g' => variable_class(s, j),
+        b'%' | b'c' | b'o' | b'x' | b'X' | b'!' | b'~' | b'i' => classed(Class::Plain, next),
+        b'+' | b'-' | b'/' | b'm' | b'|' | b'^' | b'=' => classed(Class::Plain, next),
+        b'*' | b'&' | b'<' | b'>' | b'A' | b'O' | b'd' => classed(Class::Plain, next),
+        b'?' => classed(Class::If, next),
+        b't' => classed(Class::Then, next),
+        b'e' => classed(Class::Else, next),
+        b';' => classed(Class::End, next),
+        _ => other_class(s, j),
+    }
+}
+
+// The class of the item that starts at a place.
+pub fn class_at(s: &[u8], i: usize) -> Classed
+    requires { ⌜ i < length (now s) ⌝ }
+    ensures { λ r. ⌜ r ≡ classAt (now (s .entry)) i ⌝ }
+{
+    let c = s[i];
+    if c == 0 {
+        return Classed {
+            class: Class::Wrong,
+            next: i + 1,
+        };
+    }
+    if c == b'%' {
+        return percent_class(s, i + 1);
+    }
+    Classed {
+        class: Class::Plain,
+        next: i + 1,
+    }
+}
