@@ -1,0 +1,29 @@
+/* Expands document 01's examples of strings and prints what comes out, with the steps. */
+#include <stdio.h>
+#include <string.h>
+#include "terminfo_c.h"
+
+static void show(const char *name, const char *string, int all) {
+    int32_t arguments[9], lasting[26] = {0};
+    uint8_t buffer[200];
+    for (int i = 0; i < 9; i++)
+        arguments[i] = all;
+    uint64_t answer = terminfo_expand((const uint8_t *)string, strlen(string), arguments, lasting, buffer, sizeof buffer, 0);
+    printf("%s at %d: ", name, all);
+    if (terminfo_refusal(answer) != 0) {
+        printf("refused %u at %u\n", terminfo_refusal(answer), (unsigned)terminfo_value(answer));
+        return;
+    }
+    for (size_t i = 0; i < terminfo_length(answer); i++)
+        printf(buffer[i] == 27 ? "\\E" : buffer[i] < 33 || buffer[i] > 126 ? "\\%03o" : "%c", buffer[i]);
+    printf(" in %zu steps\n", terminfo_steps(answer));
+}
+
+int main(void) {
+    const char *sgr = "\033[0%?%p6%t;1%;%?%p2%t;4%;%?%p4%t;5%;%?%p1%p3%|%t;7%;%?%p7%t;8%;m%?%p9%t%{14}%e%{15}%;%c";
+    show("sgr", sgr, 1);
+    show("sgr", sgr, 0);
+    show("cup", "\033[%i%p1%d;%p2%dH", 0);
+    show("or without a value", "%?%p2%|%t;4%;", 0);
+    return 0;
+}
