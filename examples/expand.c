@@ -1,4 +1,4 @@
-/* Expands document 01's examples of strings and prints what comes out, with the steps. */
+/* Expands sgr, cup and a string that finds the stack empty, and prints what comes out, with the steps. */
 #include <stdio.h>
 #include <string.h>
 #include "terminfo_c.h"
@@ -20,7 +20,8 @@ static void show(const char *name, const char *string, int all) {
 }
 
 int main(void) {
-    const char *sgr = "\033[0%?%p6%t;1%;%?%p2%t;4%;%?%p4%t;5%;%?%p1%p3%|%t;7%;%?%p7%t;8%;m%?%p9%t%{14}%e%{15}%;%c";
+    /* the ncurses manual's sgr; \016 and \017 are ^N and ^O */
+    const char *sgr = "\033[0%?%p1%p6%|%t;1%;%?%p2%t;4%;%?%p4%t;5%;%?%p1%p3%|%t;7%;%?%p7%t;8%;m%?%p9%t\016%e\017%;";
     show("sgr", sgr, 1);
     show("sgr", sgr, 0);
     show("cup", "\033[%i%p1%d;%p2%dH", 0);
