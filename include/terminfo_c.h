@@ -1,5 +1,5 @@
-/* The terminfo library for C and C++: compiled entries are opened, asked, written and merged, and
- * parameterized strings are expanded.
+/* The terminfo library for C and C++: source text is compiled, compiled entries are opened, asked,
+ * written and merged, and parameterized strings are expanded.
  *
  * An edition is three counts, of booleans (at most 64), numbers (at most 64) and strings (at most
  * 512); it knows the places below its counts in the three ordered lists of capabilities. The first
@@ -9,7 +9,7 @@
  * bits below hold what the call or the refusal gives, and are 0 where it gives nothing.
  *
  *     1   the file is shorter than 12 bytes, longer than 4,096 or not as long as its header says,
- *         or the string to be expanded is longer than 1,000 bytes
+ *         the text is longer than 16,384 bytes, or the string to be expanded longer than 1,000
  *     2   the file does not begin with the magic number 282
  *     3   a header short is above 32,767, the names size is outside 2 to 128, the edition is too
  *         large, or the writer is given fewer states than the edition counts
@@ -22,8 +22,14 @@
  *     8   the buffer is shorter than the file to be written, or has too little room for the output
  *         of an expansion; bits 0 to 55 give the length of the file or output
  *     9   the file to be written is longer than 4,096 bytes
- *     13  the writer is given a state of no kind, a number above 32,767, or a string that is longer
- *         than 1,000 bytes or holds a NUL
+ *     10  the text is malformed; for 10 to 13 bits 0 to 55 give the first byte of the field, 0 for
+ *         the header
+ *     11  a field's name is unknown, or of another kind
+ *     12  a field is use=
+ *     13  an alias of the text is longer than 14 bytes, a number above 32,767 or of more than 99
+ *         digits, a string longer than 1,000 bytes, or all names together longer than 127; or the
+ *         writer is given a state of no kind, a number above 32,767, or a string that is longer
+ *         than 1,000 bytes or holds a NUL, and then bits 0 to 55 are 0
  *     14  the string to be expanded is malformed; bits 0 to 55 give the place of the first wrong
  *         item, or the string's length where a conditional is not closed
  *     15  an item finds too few values on the stack; bits 0 to 55 give the item's place
@@ -59,9 +65,10 @@ static inline unsigned terminfo_refusal(uint64_t answer) { return (unsigned)(ans
 /* The kind of state in the answer of terminfo_boolean, terminfo_number or terminfo_string. */
 static inline unsigned terminfo_kind(uint64_t answer) { return (unsigned)(answer >> 48) & 255u; }
 
-/* The number's value in the answer of terminfo_number, the file's length in that of terminfo_write
- * or terminfo_merge (success, or refusal 8), or what a refusal of terminfo_expand gives: the
- * output's length (8) or an item's place (14, 15, 16). */
+/* The number's value in the answer of terminfo_number, the file's length in that of
+ * terminfo_write, terminfo_merge or terminfo_compile (success, or refusal 8), the field's first
+ * byte in that of terminfo_compile (refusals 10 to 13), or what a refusal of terminfo_expand gives:
+ * the output's length (8) or an item's place (14, 15, 16). */
 static inline uint64_t terminfo_value(uint64_t answer) { return answer & 0xFFFFFFFFFFFFu; }
 
 /* Where the part of the file starts that terminfo_names or terminfo_string gives. */
@@ -176,6 +183,37 @@ uint64_t terminfo_write(size_t booleans, size_t numbers, size_t strings,
                         const uint8_t *lent, size_t lent_length,
                         uint8_t *buffer, size_t buffer_length);
 
+/* Compiles source text that holds one description and writes the file in the first edition, from the
+ * buffer's first byte on.
+ *
+ * text, text_length           the bytes of the text.
+ * buffer                      takes the file; its bytes past the file stay.
+ *
+ * Lines end in byte 10, white space is space and tab. Blank lines and lines whose first nonblank is
+ * # are skipped before the header and where a field may begin. The header starts in column 1: at
+ * least two names parted by |, a comma, then only white space to the line's end. Fields follow,
+ * indented on each new line, each with a comma behind it:
+ *
+ *     am,                       a boolean;
+ *     cols#80,                  a number: decimal, octal with a leading 0, or hex with 0x or 0X;
+ *     bel=^G,                   a string: codes 32 to 126, and \E \e 27, \n \l 10, \r 13, \t 9,
+ *                               \b 8, \f 12, \s 32, \^ \\ \, \: themselves, \ and one to three octal
+ *                               digits, ^ and a letter or one of @[\]^_ the code mod 32, ^? 127. A
+ *                               result of 0 is stored as 128. A line end and the white space
+ *                               after it, of which there must be some, are left out;
+ *     bel@,                     a cancelled capability of any kind;
+ *     .bel=^G,                  a field that is dropped: its form must be right, its name and its
+ *                               limits are not judged.
+ *
+ * The first field for a capability stands; later ones are checked and ignored.
+ *
+ * Success gives the file's length (terminfo_value). Refusals, the first that applies: 1; then of the
+ * header and the fields in turn 10, 12, 11, 13, with the place of the first byte of the field, 0
+ * for the header (terminfo_value); 13 for all names together, with 0; 9; 8 (gives the file's
+ * length: terminfo_value). */
+uint64_t terminfo_compile(const uint8_t *text, size_t text_length, uint8_t *buffer,
+                          size_t buffer_length);
+
 /* Merges a first file over a second one and writes the result, from the buffer's first byte on.
  *
  * first, first_length         the bytes of the first file.
@@ -229,10 +267,10 @@ uint64_t terminfo_capability(uint8_t kind, size_t place);
  *     %& %| %^ %~               the same for the bits of two values, or of one;
  *     %= %> %< %A %O %!         the same for comparisons, and, or, not; they give 1 or 0;
  *     %i                        adds 1 to the first two arguments;
- *     %? .. %t .. %e .. %;      a conditional: %t pops a value and on 0 goes past the next %e, or
- *                               the %; if there is none; a reached %e goes past the %;. After %e
- *                               may come another condition with its %t. At most 16 stand within
- *                               each other.
+ *     %? .. %t .. %e .. %;      a conditional: %t pops a value and on 0 goes past the next %e of
+ *                               this level, or past its %; if there is none; a reached %e goes
+ *                               past the %;. After %e may come another condition with its %t. At
+ *                               most 16 stand within each other.
  *
  * Success gives the steps, which are the items taken, times 2^24 plus the output's length
  * (terminfo_steps, terminfo_length). Refusals, the first that applies: 17 (at is above

@@ -11,11 +11,13 @@ from array import array
 from pathlib import Path
 
 import model
+import text_model
 
 ROOT = Path(__file__).resolve().parent.parent
 SHARED_OBJECT = ROOT / "target" / "tests" / "libterminfo_c.so"
 
-# The calls and the answers within that of ask, with the refusals that each can give (0 is success).
+# The calls that test_random.py compares and the answers within that of ask, with the refusals that
+# each can give (0 is success).
 REFUSALS = {
     "open": (0, 1, 2, 3, 4, 5, 6, 7),
     "names": (0, 17),
@@ -41,6 +43,7 @@ ARGUMENTS = {
     "write": [SIZE, SIZE, SIZE] + 9 * [POINTER, SIZE],
     "merge": [POINTER, SIZE] + FILE_AND_EDITION + [POINTER, SIZE],
     "capability": [ctypes.c_uint8, SIZE],
+    "compile": [POINTER, SIZE, POINTER, SIZE],
 }
 
 
@@ -305,6 +308,22 @@ def merge(first, second, edition, room):
 
 def model_merge(first, second, edition, room):
     return model_written(model.merge, first, second, edition, room)
+
+
+TEXT = Lent(capacity=1 << 16)
+
+
+def compile_text(text, room):
+    """The library's answer and the file that it wrote (None if refused)."""
+    TEXT.put(text)
+    found = written("compile", [TEXT.address, TEXT.length], room)
+    require(TEXT.kept(), "the text to compile")
+    return found
+
+
+def model_compile(text, room):
+    number, values, file = text_model.compile(text, room)
+    return (len(file), file) if file is not None else (pack(number, *values), None)
 
 
 def capability(kind, place):

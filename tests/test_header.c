@@ -1,4 +1,5 @@
-/* The header in C and in C++: entries are written, opened, asked and merged by its functions. */
+/* The header in C and in C++: entries are written, opened, asked and merged, and strings expanded, by
+ * its functions. */
 #include <assert.h>
 #include <stdio.h>
 #include <string.h>
@@ -80,6 +81,63 @@ static void merging(void) {
     assert(terminfo_refusal(answer) == 1);
 }
 
+/* Expands a string of C with the arguments 0, 0, -5 and six more. */
+static uint64_t expand(const char *string, int32_t lasting[26], uint8_t buffer[16], size_t at) {
+    const int32_t arguments[9] = {0, 0, -5, 0, 0, 0, 0, 0, 0};
+    return terminfo_expand((const uint8_t *)string, strlen(string), arguments, lasting, buffer, 16,
+                           at);
+}
+
+/* Expands strings: steps and length, the bytes around the output, the lasting variables; a refusal
+ * changes nothing. */
+static void expanding(void) {
+    int32_t lasting[26] = {0};
+    uint8_t buffer[16];
+    uint64_t answer;
+
+    memset(buffer, '.', sizeof buffer);
+    answer = expand("\033[%i%p1%d;%p2%dH", lasting, buffer, 2);
+    assert(terminfo_refusal(answer) == 0);
+    assert(terminfo_steps(answer) == 9 && terminfo_length(answer) == 6);
+    assert(!memcmp(buffer, "..\033[1;1H........", sizeof buffer));
+    answer = expand("%p3%PB%gB%03d", lasting, buffer, 0);
+    assert(terminfo_steps(answer) == 4 && terminfo_length(answer) == 3);
+    assert(!memcmp(buffer, "-05[1;1H........", sizeof buffer) && lasting[1] == -5);
+
+    answer = expand("a%p1%PB%+", lasting, buffer, 0);
+    assert(terminfo_refusal(answer) == 15 && terminfo_value(answer) == 7);
+    answer = expand("%p1%PB%p3%4d", lasting, buffer, 13);
+    assert(terminfo_refusal(answer) == 8 && terminfo_value(answer) == 4);
+    answer = expand("%?", lasting, buffer, 16);
+    assert(terminfo_refusal(answer) == 14 && terminfo_value(answer) == 2);
+    assert(terminfo_refusal(expand("", lasting, buffer, 17)) == 17);
+    assert(!memcmp(buffer, "-05[1;1H........", sizeof buffer) && lasting[1] == -5);
+}
+
+/* A text compiled and read back, and a field that is refused with its place. */
+static void compiling(void) {
+    const char *text = "a|console a,\n\tam, cols#0x50, bel@, cr=^M,\n";
+    const char *wrong = "a|console a,\n\tam, colums#80,\n";
+    uint8_t buffer[400];
+    uint64_t answer;
+    size_t length;
+
+    memset(buffer, '.', sizeof buffer);
+    answer = terminfo_compile((const uint8_t *)wrong, strlen(wrong), buffer, sizeof buffer);
+    assert(terminfo_refusal(answer) == 11 && terminfo_value(answer) == 18);
+    assert(buffer[0] == '.');
+    answer = terminfo_compile((const uint8_t *)text, strlen(text), buffer, sizeof buffer);
+    assert(terminfo_refusal(answer) == 0);
+    length = (size_t)terminfo_value(answer);
+    assert(length < sizeof buffer && buffer[length] == '.');
+    assert(terminfo_kind(terminfo_boolean(buffer, length, 21, 8, 138, 1)) == TERMINFO_PRESENT);
+    assert(terminfo_value(terminfo_number(buffer, length, 21, 8, 138, 0)) == 80);
+    assert(terminfo_kind(terminfo_string(buffer, length, 21, 8, 138, 1)) == TERMINFO_CANCELLED);
+    answer = terminfo_string(buffer, length, 21, 8, 138, 2);
+    assert(terminfo_length(answer) == 1 && buffer[terminfo_start(answer)] == 13);
+    assert(terminfo_refusal(terminfo_compile((const uint8_t *)text, strlen(text), buffer, 14)) == 8);
+}
+
 /* Refusals, and the name of a capability. */
 static void refusals(void) {
     const uint8_t file[14] = {26, 1, 2, 0, 0, 0, 0, 0, 0, 0, 0, 0, 'a', 0};
@@ -106,6 +164,8 @@ static void refusals(void) {
 int main(void) {
     example();
     merging();
+    expanding();
+    compiling();
     refusals();
 #ifdef __cplusplus
     puts("the example works in C++");

@@ -2,7 +2,8 @@
 
 The order of the lists is held to what tic compiles for each capability alone. Of installed entries,
 and of the same ones compiled again without an extended section, every capability of the first
-edition is held to what infocmp prints.
+edition is held to what infocmp prints. The library compiles the source text of the same entries,
+and infocmp must print the same capabilities for its files.
 """
 
 import os
@@ -13,6 +14,7 @@ import tempfile
 from collections import Counter
 from pathlib import Path
 
+import act4
 import library
 import model
 from library import Reader, part_of, state_of
@@ -158,21 +160,26 @@ def refusal_expected(file):
     return 1 if len(file) > size else 0
 
 
+def installed():
+    """The path of every installed entry, and what infocmp -1 prints for it."""
+    for directory in run("infocmp", "-D").decode().split():
+        for path in sorted(Path(directory).glob("?/*")):
+            if not path.is_symlink():
+                yield path, run("infocmp", "-1", "-A", directory, path.name)
+
+
 def check_installed(folder):
     """Every installed entry, as it is and compiled again without an extended section."""
     outcomes = {"installed": Counter(), "compiled again": Counter()}
-    directories = run("infocmp", "-D").decode().split()
-    for path in (path for directory in directories for path in sorted(Path(directory).glob("?/*"))):
-        if not path.is_symlink():
-            text = run("infocmp", "-1", "-A", str(path.parent.parent), path.name)
-            compile_text(text, folder)
-            first_name = fields(text)[0].split(b"|")[0].decode("ascii")
-            for form, file in (("installed", path.read_bytes()),
-                               ("compiled again", compiled(folder, first_name))):
-                refused = check_entry(f"{path.name} {form}", file, text)
-                if refused != refusal_expected(file):
-                    fail(path.name, form, "is refused", refused)
-                outcomes[form][refused] += 1
+    for path, text in installed():
+        compile_text(text, folder)
+        first_name = fields(text)[0].split(b"|")[0].decode("ascii")
+        for form, file in (("installed", path.read_bytes()),
+                           ("compiled again", compiled(folder, first_name))):
+            refused = check_entry(f"{path.name} {form}", file, text)
+            if refused != refusal_expected(file):
+                fail(path.name, form, "is refused", refused)
+            outcomes[form][refused] += 1
     if not all(outcome[0] for outcome in outcomes.values()):
         fail("no entry of ncurses was accepted")
     return "; ".join(
@@ -181,7 +188,48 @@ def check_installed(folder):
         for form, outcome in outcomes.items())
 
 
+def cut(text):
+    """What infocmp -1 prints, cut to names, capabilities and spelling of document 01."""
+    known = {name for _, _, name in CAPABILITIES}
+    header, *lines = [line for line in text.split(b"\n") if line and not line.startswith(b"#")]
+    *aliases, last = header.removesuffix(b",").split(b"|")
+    kept = [b"|".join([alias[:14] for alias in aliases] + [last]) + b","]
+    for line in lines:
+        if re.match(rb"\t([^=#@,]+)", line)[1].decode("ascii") in known:
+            kept.append(line.replace(b"%^", b"%\\^"))
+    return b"\n".join(kept) + b"\n"
+
+
+def check_printed(folder, text, names, states):
+    """Compiles a text by the library and compares what infocmp prints for the file."""
+    answer, file = library.compile_text(text, model.LARGEST_FILE)
+    if file is None:
+        fail(text, "is refused", hex(answer))
+    first = names.split(b"|")[0].decode("ascii")
+    (folder / first[0]).mkdir(exist_ok=True)
+    (folder / first[0] / first).write_bytes(file)
+    found = fields(run("infocmp", "-1", "-A", str(folder), first))
+    if found != (names, states):
+        fail(first, "compiled by the library is printed as", found, "instead of", (names, states))
+
+
+def check_compiled(folder):
+    """The source texts of installed entries, that of act4, and one with all cancelled."""
+    texts = [cut(text) for _, text in installed()]
+    texts.append(b"none|all are cancelled,\n" + b"".join(
+        f"\t{name}@,\n".encode() for _, _, name in CAPABILITIES))
+    for text in texts:
+        check_printed(folder, text, *fields(text))
+    by_line = re.sub(rb", +", b",\n\t", act4.TEXT).replace(b"    ", b"\t")
+    check_printed(folder, act4.TEXT, *fields(by_line))
+    return len(texts) + 1
+
+
 if __name__ == "__main__":
     with tempfile.TemporaryDirectory() as name:
         order = check_order(Path(name))
-        print(f"{order} entries of one capability agree with tic; {check_installed(Path(name))}")
+        outcome = check_installed(Path(name))
+    with tempfile.TemporaryDirectory() as name:
+        count = check_compiled(Path(name))
+    print(f"{order} entries of one capability agree with tic; {outcome}; {count} texts compiled, "
+          "infocmp prints the same")

@@ -2,3 +2,4 @@ pub mod If
 pub mod Scan
 pub mod Tabulate
 pub mod Overwrite
+pub mod Loop

@@ -1,8 +1,10 @@
 -- A call's answer in document 01's terms (Numbers of refusal).
 -- Assumes nothing.
+use mathlib.Core.Path.{_≡_}
 use mathlib.Core.Bool.{Bool, true, false}
 use mathlib.Core.List.{List}
 use Prim.Native.Nat.{ℕ}
+use lib.ListN.{length}
 use Rattle.base.specs.Overwrite.{putAt}
 
 -- refused under a number, with the values that the refusal gives; or done, with what the call gives
@@ -33,3 +35,7 @@ numberOf (gives x) = 0
 abbrev pub bufferAfter : List ℕ → Answer (List ℕ) → List ℕ
 bufferAfter b (refused n v) = b
 bufferAfter b (gives bytes) = putAt b 0 bytes
+
+-- a call that gives a buffer bytes says how many, or its refusal; b is the buffer before the call and c after it
+abbrev pub Leaves : Answer (List ℕ) → (b c : List ℕ) → Answer ℕ → Type 0
+Leaves a b c says = (says ≡ mapAnswer length a) × (c ≡ bufferAfter b a)

@@ -13,18 +13,20 @@ use lib.Seq.{getD-set-same, getD-set-other}
 use borrow.Author.Tests.{lt-ltb, le-ltb, ltb-true}
 use Rattle.base.specs.If.{if_then_else_}
 use Rattle.base.specs.Overwrite.{putAt, put-nil, put-put}
+use Rattle.signed.specs.Signed.{isZero}
 use Rattle.expansion.specs.declared.Item.{Item}
 use Rattle.expansion.specs.declared.Item.the-variants as I
 use Rattle.expansion.specs.declared.Lexed.{Lexed}
+use Rattle.expansion.specs.Limits.{stackMost, printedMost}
 use Rattle.expansion.specs.Items.{itemAt}
 use Rattle.expansion.specs.Form.{classAt}
 use Rattle.expansion.specs.Emit.{emitted}
-use Rattle.expansion.specs.Machine.{stackMost, Machine, Effect, prints, pushes, stores, increments, toElse, toEnd, goesOn, empty, full, withStack, arity, effect, loaded, stored, incremented, performed, taking, Passing, stops, opens, passing, passed, finished, failed, running}
+use Rattle.expansion.specs.Machine.{Value, Machine, Effect, prints, pushes, stores, increments, toElse, toEnd, goesOn, empty, full, withStack, arity, effect, loaded, stored, incremented, performed, taking, Passing, stops, opens, passing, passed, finished, failed, running}
 use Rattle.print.specs.EmitLaws.{emitted-fits, length-emitted}
 use Rattle.items.proofs.Laws.{item-on}
 use Rattle.expand.specs.declared.Step.{Step}
 use Rattle.expand.specs.declared.Step.the-variants.{Push, Go}
-use Rattle.expand.specs.Steps.{topDown, machine, stepOf, machineAfter, printedBy, SteppedAs}
+use Rattle.expand.specs.Steps.{topDown, machine, stepOf, afterThen, machineAfter, printedBy, SteppedAs}
 
 -- ---- output
 
@@ -77,8 +79,18 @@ topDown-at z l (suc n) (suc k) h = let e : suc n - (suc k + 1) ≡ n - (k + 1) =
 pub no-more : (next w : ℕ) → Go next w ≡ Go next (w + 0)
 no-more next w = ap (Go next) (omega arith)
 
+-- a step of `%t` that popped b
+pub stepped-then : (s : List ℕ) (next w : ℕ) (m : Machine) (a b : Value) (c : List ℕ) (n : ℕ) → n ≡ afterThen s next b
+    → SteppedAs (effect I.Then m a b) s next w m m c c (Go n w)
+unfolding effect stepOf machineAfter printedBy
+stepped-then s next w m a b c n e = by-test (isZero b) refl
+  where
+    by-test : (t : Bool) → isZero b ≡ t → SteppedAs (effect I.Then m a b) s next w m m c c (Go n w)
+    by-test true q = rw q (record { step = ap (λ (k : ℕ). Go k w) (rw q at e); after = refl; output = emitted-nothing c w; short = omega arith })
+    by-test false q = rw q (record { step = ap (λ (k : ℕ). Go k w) (rw q at e) ∙ no-more next w; after = refl; output = emitted-nothing c w; short = omega arith })
+
 -- an item's effect looks at no other values of the stack than those that it pops
-effect-same : (k : Item) (st st′ x y z : List ℤ) (a a′ b b′ : ℤ) → (0 < arity k → b ≡ b′) → (1 < arity k → a ≡ a′)
+effect-same : (k : Item) (st st′ : List Value) (x y z : List ℤ) (a a′ b b′ : Value) → (0 < arity k → b ≡ b′) → (1 < arity k → a ≡ a′)
     → effect k (machine st x y z) a b ≡ effect k (machine st′ x y z) a′ b′
 unfolding effect arity loaded
 effect-same (I.Byte c) st st′ x y z a a′ b b′ h g = refl
@@ -99,22 +111,22 @@ effect-same I.End st st′ x y z a a′ b b′ h g = refl
 effect-same I.Wrong st st′ x y z a a′ b b′ h g = refl
 
 -- the machine whose stack is an array's first d elements
-abbrev pub over : List ℤ → ℕ → List ℤ → List ℤ → List ℤ → Machine
+abbrev pub over : List Value → ℕ → List ℤ → List ℤ → List ℤ → Machine
 over st d x y z = machine (topDown (pos 0) st d) x y z
 
 -- d′ elements are left of d where an item's values are popped: b, and a below it
-pub record Popped (k : Item) (st : List ℤ) (d d′ : ℕ) (a b : ℤ) : Type 0 where
+pub record Popped (k : Item) (st : List Value) (d d′ : ℕ) (a b : Value) : Type 0 where
   pub enough : arity k ≤ d
   pub left : d′ ≡ d - arity k
   pub top : 0 < arity k → b ≡ getD st (d - 1) (pos 0)
   pub below : 1 < arity k → a ≡ getD st (d - 2) (pos 0)
 
-module _ (k : Item) (st : List ℤ) (d : ℕ) (x y z : List ℤ) where
+module _ (k : Item) (st : List Value) (d : ℕ) (x y z : List ℤ) where
   taking-none : d < arity k → taking k (over st d x y z) ≡ empty
   unfolding taking
   taking-none h = rw (topDown-length (pos 0) st d, lt-ltb d (arity k) h)
 
-  taking-popped : (d′ : ℕ) (a b : ℤ) → Popped k st d d′ a b → taking k (over st d x y z) ≡ performed (effect k (over st d′ x y z) a b) (over st d′ x y z)
+  taking-popped : (d′ : ℕ) (a b : Value) → Popped k st d d′ a b → taking k (over st d x y z) ≡ performed (effect k (over st d′ x y z) a b) (over st d′ x y z)
   unfolding taking
   taking-popped d′ a b p =
       let e = effect-same k (topDown (pos 0) st d) (topDown (pos 0) st d′) x y z (getD (topDown (pos 0) st d) 1 (pos 0)) a
@@ -170,14 +182,14 @@ module _ (f : ℕ) (s : List ℕ) (i : ℕ) (m : Machine) (o : List ℕ) (n : �
       let l : w′ ≡ w = cc in
       (rw (running, lt-ltb i (length s) h, q, t, q, y, append-nil o) refl, omega arith, omega (arith, passed-on (length s) false s (k .next) 0))
 
-  turn-push : (m′ : Machine) (v : ℤ) → taking (k .item) m ≡ performed (pushes v) m′ → length (m′ .stack) < stackMost
+  turn-push : (m′ : Machine) (v : Value) → taking (k .item) m ≡ performed (pushes v) m′ → length (m′ .stack) < stackMost
       → running (suc f) s i m o n ≡ running f s (k .next) (withStack m′ (v ∷ m′ .stack)) o (n + 1)
   unfolding running performed
   turn-push m′ v t l =
       let e : taking (k .item) m ≡ goesOn (withStack m′ (v ∷ m′ .stack)) [] = t ∙ rw (lt-ltb (length (m′ .stack)) stackMost l) in
       rw (running, lt-ltb i (length s) h, q, e, q, append-nil o) refl
 
-  turn-full : (m′ : Machine) (v : ℤ) → taking (k .item) m ≡ performed (pushes v) m′ → stackMost ≤ length (m′ .stack) → running (suc f) s i m o n ≡ failed 16 i
+  turn-full : (m′ : Machine) (v : Value) → taking (k .item) m ≡ performed (pushes v) m′ → stackMost ≤ length (m′ .stack) → running (suc f) s i m o n ≡ failed 16 i
   unfolding running performed
   turn-full m′ v t l =
       let e : taking (k .item) m ≡ full = t ∙ rw (le-ltb (length (m′ .stack)) stackMost l) in
@@ -188,7 +200,7 @@ unfolding running
 run-out zero s i m o n h = refl
 run-out (suc f) s i m o n h = rw (running, le-ltb i (length s) h)
 
-only-pushes : (e : Effect) (s : List ℕ) (j w : ℕ) (v : ℤ) → stepOf e s j w ≡ Push v → e ≡ pushes v
+only-pushes : (e : Effect) (s : List ℕ) (j w : ℕ) (v : Value) → stepOf e s j w ≡ Push v → e ≡ pushes v
 unfolding stepOf
 only-pushes (prints bytes) s j w v h = absurd (let y : _≡_ {A = ℕ} 0 1 = cc in (let z : ⊥ = omega arith in z))
 only-pushes (pushes u) s j w v h = cc
@@ -215,19 +227,19 @@ arguments-kept toEnd m = refl
 -- ---- the turns of a loop that runs s from m₀ over a buffer of bytes c₀
 
 -- the stack is st's first d elements, n steps are taken, i is the place, and the output o, of w bytes, is in c if it fits
-pub record Going (s : List ℕ) (m₀ : Machine) (c₀ : List ℕ) (x y z st : List ℤ) (d i n w : ℕ) (c o : List ℕ) : Type 0 where
+pub record Going (s : List ℕ) (m₀ : Machine) (c₀ : List ℕ) (x y z : List ℤ) (st : List Value) (d i n w : ℕ) (c o : List ℕ) : Type 0 where
   pub depth : d ≤ stackMost
   pub places : length st ≡ stackMost
   pub nine : length x ≡ 9
   pub behind : n ≤ i
   pub steps : n ≤ length s
   pub counted : w ≡ length o
-  pub short : w ≤ 255 * n
+  pub short : w ≤ printedMost * n
   pub same : length c ≡ length c₀
   pub output : length o ≤ length c₀ → c ≡ putAt c₀ 0 o
   pub runs : running (length s) s 0 m₀ [] 0 ≡ running (length s - n) s i (over st d x y z) o n
 
-pub going-start : (s c : List ℕ) (x y z st : List ℤ) → length st ≡ stackMost → length x ≡ 9 → Going s (over st 0 x y z) c x y z st 0 0 0 0 c []
+pub going-start : (s c : List ℕ) (x y z : List ℤ) (st : List Value) → length st ≡ stackMost → length x ≡ 9 → Going s (over st 0 x y z) c x y z st 0 0 0 0 c []
 going-start s c x y z st l n =
     let e : length s - 0 ≡ length s = omega arith in
     record {
@@ -243,7 +255,7 @@ going-start s c x y z st l n =
       runs = rw e;
     }
 
-module _ {s : List ℕ} {m₀ : Machine} {c₀ : List ℕ} {x y z st : List ℤ} {d i n w : ℕ} {c o : List ℕ} (G : Going s m₀ c₀ x y z st d i n w c o) where
+module _ {s : List ℕ} {m₀ : Machine} {c₀ : List ℕ} {x y z : List ℤ} {st : List Value} {d i n w : ℕ} {c o : List ℕ} (G : Going s m₀ c₀ x y z st d i n w c o) where
   pub going-done : length s ≤ i → running (length s) s 0 m₀ [] 0 ≡ finished (over st d x y z) o n
   going-done h = G .runs ∙ run-out (length s - n) s i (over st d x y z) o n h
 
@@ -257,8 +269,8 @@ module _ {s : List ℕ} {m₀ : Machine} {c₀ : List ℕ} {x y z st : List ℤ}
     pub going-empty : d < arity (k .item) → running (length s) s 0 m₀ [] 0 ≡ failed 15 i
     going-empty l = here ∙ turn-empty (length s - (n + 1)) s i (over st d x y z) o n k (sym q) h (taking-none (k .item) st d x y z l)
 
-    module _ {d′ : ℕ} {a b : ℤ} {x′ y′ z′ : List ℤ} {c′ : List ℕ} {r : Step} (p : Popped (k .item) st d d′ a b)
-        (g : (st′ : List ℤ) → SteppedAs (effect (k .item) (machine st′ x y z) a b) s (k .next) w (machine st′ x y z) (machine st′ x′ y′ z′) c c′ r) where
+    module _ {d′ : ℕ} {a b : Value} {x′ y′ z′ : List ℤ} {c′ : List ℕ} {r : Step} (p : Popped (k .item) st d d′ a b)
+        (g : (st′ : List Value) → SteppedAs (effect (k .item) (machine st′ x y z) a b) s (k .next) w (machine st′ x y z) (machine st′ x′ y′ z′) c c′ r) where
       popping : taking (k .item) (over st d x y z) ≡ performed (effect (k .item) (over st d′ x y z) a b) (over st d′ x y z)
       popping = taking-popped (k .item) st d x y z d′ a b p
 
@@ -276,7 +288,7 @@ module _ {s : List ℕ} {m₀ : Machine} {c₀ : List ℕ} {x y z st : List ℤ}
           let s′ = g (topDown (pos 0) st d′) in
           s′ .output ∙ rw (G .counted) (emitted-on c₀ c o _ (G .same) (G .output) l)
 
-      module _ {v : ℤ} (u : r ≡ Push v) where
+      module _ {v : Value} (u : r ≡ Push v) where
         pushing : effect (k .item) (over st d′ x y z) a b ≡ pushes v
         pushing = only-pushes _ s (k .next) w v (sym (g (topDown (pos 0) st d′) .step) ∙ u)
 

@@ -6,8 +6,11 @@ use mathlib.Core.List.{List, [], _∷_}
 use Prim.Native.Nat.{ℕ, zero, suc, _+_, _≤_}
 use lib.IntN.{ℤ}
 use lib.ListN.{length, getD}
+use Rattle.base.specs.If.{if_then_else_}
 use Rattle.base.specs.Overwrite.{putAt}
+use Rattle.signed.specs.Signed.{isZero}
 use Rattle.entry.specs.Answer.{Answer, refused, gives}
+use Rattle.expansion.specs.Limits.{printedMost}
 use Rattle.expansion.specs.Emit.{emitted}
 use Rattle.expansion.specs.Machine.{Value, Machine, Effect, prints, pushes, stores, increments, toElse, toEnd, stored, incremented, withArguments, passed, Outcome, finished, failed}
 use Rattle.expansion.specs.Expanding.{Counts}
@@ -35,6 +38,10 @@ stepOf increments s next w = Go next w
 stepOf toElse s next w = Go (passed (length s) true s next 0) w
 stepOf toEnd s next w = Go (passed (length s) false s next 0) w
 
+-- where `%t` that popped b goes on; next is the place behind it
+abbrev pub afterThen : List ℕ → ℕ → Value → ℕ
+afterThen s next b = if isZero b then passed (length s) true s next 0 else next
+
 unfoldable pub machineAfter : Effect → Machine → Machine
 machineAfter (prints bytes) m = m
 machineAfter (pushes v) m = m
@@ -56,7 +63,7 @@ pub record SteppedAs (e : Effect) (s : List ℕ) (next w : ℕ) (m m′ : Machin
   pub step : r ≡ stepOf e s next w
   pub after : m′ ≡ machineAfter e m
   pub output : b′ ≡ emitted b w (printedBy e)
-  pub short : length (printedBy e) ≤ 255
+  pub short : length (printedBy e) ≤ printedMost
 
 -- ---- a run
 

@@ -12,9 +12,10 @@ ghost use Prim.Native.Nat.{_+_, _-_, _≤_, _<_};
 ghost use lib.IntN.{ℤ, pos};
 ghost use lib.ListN.{length, getD, set, take};
 ghost use Rattle.base.specs.Overwrite.{putAt};
-ghost use Rattle.expansion.specs.Machine.{arity, effect, loaded, stored, incremented, run};
+ghost use Rattle.expansion.specs.Limits.{stringMost, outputMost};
+ghost use Rattle.expansion.specs.Machine.{Value, arity, effect, loaded, stored, incremented, run};
 ghost use Rattle.expansion.specs.Expanding.{ended, expanding};
-ghost use Rattle.expand.specs.Steps.{machine, SteppedAs, RanAs, PutAs};
+ghost use Rattle.expand.specs.Steps.{machine, afterThen, SteppedAs, RanAs, PutAs};
 ghost use Rattle.expand.specs.Answers.{answering, ExpandedAs};
 
 // The longest string.
@@ -23,8 +24,8 @@ const STRING_MOST: usize = 1000;
 // The stack's places.
 const STACK_MOST: usize = 20;
 
-// The longest output that is put into a buffer of its own first.
-const SHORT_MOST: usize = 256;
+// The size of the short buffer: a longer output is run twice.
+const SHORT_OUTPUT: usize = 256;
 
 // What an item comes to once its values are popped: a value to push, or the place to go on at and the output's length.
 enum Step {
@@ -92,7 +93,7 @@ fn set_value(values: &mut [i32], k: usize, v: i32)
 
 // `%g`
 fn load(locals: &[i32; 26], lasting: &[i32; 26], c: u8) -> i32
-    ensures { λ r. ⌜ ((stack arguments : List ℤ) → r ≡ loaded (machine stack arguments (now (locals .entry)) (now (lasting .entry))) c) ⌝ }
+    ensures { λ r. ⌜ ((stack : List Value) (arguments : List ℤ) → r ≡ loaded (machine stack arguments (now (locals .entry)) (now (lasting .entry))) c) ⌝ }
 {
     if c <= b'Z' {
         value_at(lasting, letter_place(c, b'A'))
@@ -103,7 +104,7 @@ fn load(locals: &[i32; 26], lasting: &[i32; 26], c: u8) -> i32
 
 // `%P`
 fn store(locals: &mut [i32; 26], lasting: &mut [i32; 26], c: u8, v: i32)
-    ensures { λ _. ⌜ ((stack arguments : List ℤ) → machine stack arguments (now (locals .exit)) (now (lasting .exit)) ≡ stored (machine stack arguments (now (locals .entry)) (now (lasting .entry))) c v) ⌝ }
+    ensures { λ _. ⌜ ((stack : List Value) (arguments : List ℤ) → machine stack arguments (now (locals .exit)) (now (lasting .exit)) ≡ stored (machine stack arguments (now (locals .entry)) (now (lasting .entry))) c v) ⌝ }
 {
     if c <= b'Z' {
         set_value(lasting, letter_place(c, b'A'), v);
@@ -123,6 +124,16 @@ fn increment(arguments: &mut [i32; 9])
     arguments[1] = b;
 }
 
+// Where `%t` goes on: on 0 past the next `%e` of this level, or past its `%;`; else behind it.
+fn after_then(s: &[u8], next: usize, b: i32) -> usize
+    ensures { λ r. ⌜ r ≡ afterThen (now (s .entry)) next b ⌝ }
+{
+    if values::is_zero(b) {
+        return form::pass(s, next, true);
+    }
+    next
+}
+
 // Takes an item whose values are popped: a is the left operand, b the last value pushed.
 fn take(
     s: &[u8],
@@ -135,8 +146,8 @@ fn take(
     out: &mut [u8],
     written: usize,
 ) -> Step
-    requires { ⌜ (written ≤ 255000) × (length (now arguments) ≡ 9) ⌝ }
-    ensures { λ r. ⌜ ((stack : List ℤ) → SteppedAs (effect (l .item) (machine stack (now (arguments .entry)) (now (locals .entry)) (now (lasting .entry))) a b) (now (s .entry)) (l .next) written (machine stack (now (arguments .entry)) (now (locals .entry)) (now (lasting .entry))) (machine stack (now (arguments .exit)) (now (locals .exit)) (now (lasting .exit))) (now (out .entry)) (now (out .exit)) r) ⌝ }
+    requires { ⌜ (written ≤ outputMost) × (length (now arguments) ≡ 9) ⌝ }
+    ensures { λ r. ⌜ ((stack : List Value) → SteppedAs (effect (l .item) (machine stack (now (arguments .entry)) (now (locals .entry)) (now (lasting .entry))) a b) (now (s .entry)) (l .next) written (machine stack (now (arguments .entry)) (now (locals .entry)) (now (lasting .entry))) (machine stack (now (arguments .exit)) (now (locals .exit)) (now (lasting .exit))) (now (out .entry)) (now (out .exit)) r) ⌝ }
 {
     let item = l.item;
     let next = l.next;
@@ -168,12 +179,7 @@ fn take(
             Step::Go(next, written)
         }
         Item::If => Step::Go(next, written),
-        Item::Then => {
-            if values::is_zero(b) {
-                return Step::Go(form::pass(s, next, true), written);
-            }
-            Step::Go(next, written)
-        }
+        Item::Then => Step::Go(after_then(s, next, b), written),
         Item::Else => Step::Go(form::pass(s, next, false), written),
         Item::End => Step::Go(next, written),
         Item::Wrong => Step::Go(next, written),
@@ -182,7 +188,7 @@ fn take(
 
 // Runs a string from its start, and prints from the buffer's first byte on what fits; the length counts in any case.
 fn run(s: &[u8], arguments: &mut [i32; 9], lasting: &mut [i32; 26], out: &mut [u8]) -> Ran
-    requires { ⌜ (length (now s) ≤ 1000) × (length (now arguments) ≡ 9) ⌝ }
+    requires { ⌜ (length (now s) ≤ stringMost) × (length (now arguments) ≡ 9) ⌝ }
     ensures { λ r. ⌜ RanAs (run (now (s .entry)) (now (arguments .entry)) (now (lasting .entry))) r (now (lasting .exit)) × PutAs (run (now (s .entry)) (now (arguments .entry)) (now (lasting .entry))) (now (out .entry)) (now (out .exit)) ⌝ }
 {
     let mut stack = [0i32; STACK_MOST];
@@ -223,10 +229,7 @@ fn run(s: &[u8], arguments: &mut [i32; 9], lasting: &mut [i32; 26], out: &mut [u
             }
         }
     }
-    Ran::Done {
-        length: length,
-        steps: steps,
-    }
+    Ran::Done { length, steps }
 }
 
 // A refusal: the lasting variables are as they came.
@@ -240,8 +243,8 @@ fn refused(answer: Expansion, lasting: Lasting) -> Expanded
 }
 
 // Copies the first n bytes.
-fn copy(from: &[u8; SHORT_MOST], n: usize, out: &mut [u8])
-    requires { ⌜ (n ≤ 256) × (n ≤ length (now out)) × (length (now from) ≡ 256) ⌝ }
+fn copy(from: &[u8], n: usize, out: &mut [u8])
+    requires { ⌜ (n ≤ length (now from)) × (n ≤ length (now out)) ⌝ }
     ensures { λ _. ⌜ now (out .exit) ≡ putAt (now (out .entry)) 0 (take n (now (from .entry))) ⌝ }
 {
     let mut i: usize = 0;
@@ -253,7 +256,7 @@ fn copy(from: &[u8; SHORT_MOST], n: usize, out: &mut [u8])
 
 // Runs a string once more, for its output alone.
 fn run_out(s: &[u8], arguments: [i32; 9], lasting: Lasting, out: &mut [u8])
-    requires { ⌜ length (now s) ≤ 1000 ⌝ }
+    requires { ⌜ length (now s) ≤ stringMost ⌝ }
     ensures { λ _. ⌜ PutAs (run (now (s .entry)) arguments (lasting .values)) (now (out .entry)) (now (out .exit)) ⌝ }
 {
     let mut given = arguments;
@@ -261,31 +264,33 @@ fn run_out(s: &[u8], arguments: [i32; 9], lasting: Lasting, out: &mut [u8])
     run(s, &mut given, &mut kept, out);
 }
 
-// Expands a well formed string from the buffer's first byte on.
-fn expand_into(s: &[u8], arguments: [i32; 9], lasting: Lasting, out: &mut [u8]) -> Expanded
-    requires { ⌜ length (now s) ≤ 1000 ⌝ }
+// Expands a well formed string from the buffer's first byte on. The run prints into the short buffer, so that a refusal leaves the other.
+fn expand_into(
+    s: &[u8],
+    arguments: [i32; 9],
+    lasting: Lasting,
+    short: &mut [u8],
+    out: &mut [u8],
+) -> Expanded
+    requires { ⌜ length (now s) ≤ stringMost ⌝ }
     ensures { λ r. ⌜ ExpandedAs (ended (run (now (s .entry)) arguments (lasting .values)) (length (now (out .entry)))) (lasting .values) (now (out .entry)) 0 (now (out .exit)) r ⌝ }
 {
-    let mut short = [0u8; SHORT_MOST];
     let mut given = arguments;
     let mut kept = lasting.values;
-    match run(s, &mut given, &mut kept, &mut short) {
+    match run(s, &mut given, &mut kept, short) {
         Ran::Empty(i) => refused(Expansion::Empty(i), lasting),
         Ran::Full(i) => refused(Expansion::Full(i), lasting),
         Ran::Done { length, steps } => {
             if out.len() < length {
                 return refused(Expansion::Room(length), lasting);
             }
-            if SHORT_MOST < length {
+            if short.len() < length {
                 run_out(s, arguments, lasting, out);
             } else {
-                copy(&short, length, out);
+                copy(short, length, out);
             }
             Expanded {
-                answer: Expansion::Done {
-                    length: length,
-                    steps: steps,
-                },
+                answer: Expansion::Done { length, steps },
                 lasting: Lasting { values: kept },
             }
         }
@@ -311,6 +316,9 @@ pub fn expand(
     }
     match form::form_of(string) {
         Form::Wrong(i) => refused(Expansion::Malformed(i), lasting),
-        Form::Right => expand_into(string, arguments, lasting, &mut out[at..]),
+        Form::Right => {
+            let mut short = [0u8; SHORT_OUTPUT];
+            expand_into(string, arguments, lasting, &mut short, &mut out[at..])
+        }
     }
 }

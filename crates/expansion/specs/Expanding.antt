@@ -9,16 +9,13 @@ use lib.ListN.{length}
 use Rattle.base.specs.If.{if_then_else_}
 use Rattle.base.specs.Overwrite.{putAt}
 use Rattle.entry.specs.Answer.{Answer, refused, gives}
+use Rattle.expansion.specs.Limits.{stringMost}
 use Rattle.expansion.specs.declared.Form.{Form}
 use Rattle.expansion.specs.declared.Form.the-variants as F
 use Rattle.expansion.specs.declared.Expansion.{Expansion}
 use Rattle.expansion.specs.declared.Expansion.the-variants as E
 use Rattle.expansion.specs.Form.{formOf}
 use Rattle.expansion.specs.Machine.{Outcome, finished, failed, run}
-
--- "The string has at most 1,000 bytes"
-abbrev pub stringMost : ℕ
-stringMost = 1000
 
 -- what expanding gives: the bytes, the steps, and A to Z afterwards
 pub record Expanding : Type 0 where

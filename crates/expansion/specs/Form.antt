@@ -6,6 +6,7 @@ use Prim.Native.Nat.{ℕ, zero, suc}
 use lib.Dec.{ltb}
 use lib.ListN.{length}
 use Rattle.base.specs.If.{if_then_else_}
+use Rattle.expansion.specs.Limits.{nestMost}
 use Rattle.expansion.specs.declared.Item.{Item}
 use Rattle.expansion.specs.declared.Item.the-variants as I
 use Rattle.expansion.specs.declared.Class.{Class}
@@ -14,10 +15,6 @@ use Rattle.expansion.specs.declared.Classed.{Classed}
 use Rattle.expansion.specs.declared.Form.{Form}
 use Rattle.expansion.specs.declared.Form.the-variants as F
 use Rattle.expansion.specs.Items.{itemAt}
-
--- "conditionals nest at most 16 deep (the 17th `%?` is 14)"
-abbrev pub nestMost : ℕ
-nestMost = 16
 
 -- what an item is to the conditionals around it
 unfoldable pub classOf : Item → Class

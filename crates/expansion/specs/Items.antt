@@ -8,16 +8,13 @@ use lib.IntN.{pos}
 use lib.ListN.{length, getD, take, drop}
 use Rattle.base.specs.If.{if_then_else_}
 use Rattle.base.specs.Scan.{scan}
+use Rattle.expansion.specs.Limits.{constantMost}
 use Rattle.expansion.specs.declared.Item.{Item}
 use Rattle.expansion.specs.declared.Item.the-variants.{Byte, Argument, Number, Character, Constant, Store, Load, Binary, Not, Invert, Increment, If, Then, Else, End, Wrong}
 use Rattle.expansion.specs.declared.Operator.the-variants.{Add, Subtract, Multiply, Divide, Remainder, BitAnd, BitOr, BitXor, Equal, Greater, Less, And, Or}
 use Rattle.expansion.specs.declared.Base.{Base}
 use Rattle.expansion.specs.declared.Base.the-variants.{Decimal, Octal, SmallHex, CapitalHex}
 use Rattle.expansion.specs.declared.Lexed.{Lexed}
-
--- the largest constant
-abbrev pub constantMost : ℕ
-constantMost = 2147483647
 
 abbrev pub byteAt : List ℕ → ℕ → ℕ
 byteAt s i = getD s i 0

@@ -12,6 +12,7 @@ use mir.Syntax.{w32}
 use mir.Val.{ofZ, toZ}
 use Rattle.base.specs.If.{if_then_else_}
 use Rattle.signed.specs.Signed.{isZero, low32, add, subtract, multiply, divide, remainder}
+use Rattle.expansion.specs.Limits.{stackMost}
 use Rattle.expansion.specs.declared.Item.{Item}
 use Rattle.expansion.specs.declared.Item.the-variants as I
 use Rattle.expansion.specs.declared.Operator.{Operator}
@@ -21,10 +22,6 @@ use Rattle.expansion.specs.declared.Class.the-variants as C
 use Rattle.expansion.specs.Items.{itemAt}
 use Rattle.expansion.specs.Form.{classAt}
 use Rattle.expansion.specs.Print.{printed}
-
--- "The stack holds 20 values"
-abbrev pub stackMost : ℕ
-stackMost = 20
 
 -- what a stack place holds
 abbrev pub Value : Type 0

@@ -109,7 +109,7 @@ fn walk(s: &[u8], from: usize, checks: bool, elses: bool) -> Walked
     let mut i: usize = from;
     let mut kept: u64 = 0;
     while i < s.len() {
-        let c = items::class_at(s, i);
+        let c = items::classes::class_at(s, i);
         let class = c.class;
         let next = c.next;
         match turn_at(checks, elses, class, kept) {

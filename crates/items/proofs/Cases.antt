@@ -20,7 +20,8 @@ use Rattle.base.specs.Tabulate.{Each}
 use Rattle.expansion.specs.declared.Item.{Item}
 use Rattle.expansion.specs.declared.Item.the-variants.{Constant, Wrong}
 use Rattle.expansion.specs.declared.Lexed.{Lexed}
-use Rattle.expansion.specs.Items.{constantMost, byteAt, within, isDigit, isNonzero, lexed, wrong, singles, found, argumentAt, quotedAt, decimal, digitsEnd, bracedAt, storeAt, loadAt, widthAt, percentAt}
+use Rattle.expansion.specs.Limits.{constantMost}
+use Rattle.expansion.specs.Items.{byteAt, within, isDigit, isNonzero, lexed, wrong, singles, found, argumentAt, quotedAt, decimal, digitsEnd, bracedAt, storeAt, loadAt, widthAt, percentAt}
 use Rattle.items.specs.Classes.{otherAt}
 
 pub within-true : (a b x : ℕ) → within a b x ≡ true → (a ≤ x) × (x ≤ b)

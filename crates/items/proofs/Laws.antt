@@ -17,7 +17,8 @@ use Rattle.expansion.specs.declared.Item.{Item}
 use Rattle.expansion.specs.declared.Item.the-variants as I
 use Rattle.expansion.specs.declared.Base.{Base}
 use Rattle.expansion.specs.declared.Lexed.{Lexed}
-use Rattle.expansion.specs.Items.{constantMost, byteAt, within, isDigit, isNonzero, isLetter, lexed, wrong, singles, found, argumentAt, quotedAt, decimal, digitsEnd, bracedAt, storeAt, loadAt, formatAt, widthAt, percentAt, itemAt}
+use Rattle.expansion.specs.Limits.{constantMost}
+use Rattle.expansion.specs.Items.{byteAt, within, isDigit, isNonzero, isLetter, lexed, wrong, singles, found, argumentAt, quotedAt, decimal, digitsEnd, bracedAt, storeAt, loadAt, formatAt, widthAt, percentAt, itemAt}
 use Rattle.items.proofs.Cases.{within-true}
 
 -- what an item holds

@@ -29,7 +29,7 @@ use Rattle.entry.specs.declared.StringState.{StringState}
 use Rattle.entry.specs.declared.StringState.the-variants as S
 use Rattle.entry.specs.Limits.{fileMost}
 use Rattle.entry.specs.State.{State, absent, cancelled, present, mapState}
-use Rattle.entry.specs.Answer.{Answer, refused, gives, andThen, isGiven}
+use Rattle.entry.specs.Answer.{Answer, refused, gives, andThen, isGiven, Leaves}
 use Rattle.entry.specs.Layout.{sizesOf, sizeOf, tablesOf, beyondOf}
 use Rattle.entry.specs.Reading.{bytesOf, reading, namesPart, partIn, stringIn, booleanIn, numberIn}
 use Rattle.entry.specs.Asking.{opening, asking, askingNames, askingBoolean, askingNumber, askingString}
@@ -50,7 +50,7 @@ use Rattle.writer.specs.FileLaws.{length-with}
 use Rattle.merge.specs.declared.fill.HandedNumber.{HandedNumber}
 use Rattle.merge.specs.declared.fill.HandedString.{HandedString}
 use Rattle.merge.specs.Filled.{BothOpened, booleanKind, handedNumber, handedString, BooleansFilled, NumbersFilled, StringFilled, StringsFilled, Ready}
-use Rattle.merge.specs.Answers.{fitting, Leaves, Fitted, Merges}
+use Rattle.merge.specs.Answers.{fitting, Fitted, Merges}
 
 -- ---- opened files
 

@@ -1,6 +1,5 @@
 -- What a call answers and leaves in the buffer.
 -- Assumes nothing.
-use mathlib.Core.Path.{_≡_}
 use mathlib.Core.Bool.{not}
 use mathlib.Core.List.{List, [], _∷_}
 use Prim.Native.Nat.{ℕ}
@@ -9,7 +8,7 @@ use lib.ListN.{length}
 use Rattle.base.specs.If.{if_then_else_}
 use Rattle.caps.specs.declared.Edition.{Edition}
 use Rattle.entry.specs.Limits.{fileMost}
-use Rattle.entry.specs.Answer.{Answer, refused, gives, mapAnswer, bufferAfter}
+use Rattle.entry.specs.Answer.{Answer, refused, gives, Leaves}
 use Rattle.entry.specs.Merging.{merging}
 
 -- a file that is written if it is no longer than a file may be, then if it is no longer than the room
@@ -20,9 +19,6 @@ fitting f room =
     else gives f
 
 -- the buffer b before the call and c after it, and what the call says
-abbrev pub Leaves : Answer (List ℕ) → (b c : List ℕ) → Answer ℕ → Type 0
-Leaves a b c says = (says ≡ mapAnswer length a) × (c ≡ bufferAfter b a)
-
 abbrev pub Fitted : List ℕ → (b c : List ℕ) → Answer ℕ → Type 0
 Fitted f b c says = Leaves (fitting f (length b)) b c says
 

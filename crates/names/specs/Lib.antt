@@ -1,2 +1,5 @@
 pub mod Names
 pub mod Naming
+pub mod Lookup
+pub mod Searching
+pub mod LookupLaws

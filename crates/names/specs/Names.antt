@@ -8,6 +8,7 @@ use mathlib.Core.List.{List, [], _∷_, _++_}
 use lib.Dec.{eqb}
 use lib.ListN.{length, getD}
 use Rattle.base.specs.If.{if_then_else_}
+use Rattle.caps.specs.declared.Edition.{Edition}
 use Rattle.caps.specs.declared.Kind.{Kind}
 use Rattle.caps.specs.declared.Kind.the-variants as Kinds
 
@@ -50,3 +51,7 @@ namesOf Kinds.String = stringNames
 -- all names: booleans, numbers, strings
 unfoldable pub allNames : List (List ℕ)
 allNames = booleanNames ++ (numberNames ++ stringNames)
+
+-- "Names of the first edition, in compiled order (21, 8, 138)"
+abbrev pub firstEdition : Edition
+firstEdition = record { booleans = 21; numbers = 8; strings = 138 }

@@ -12,12 +12,14 @@ ghost use Rattle.names.specs.Naming.{packed, packedNames, naming, saysNa
 use caps::Kind;
 use caps::Place;
 
+pub mod find;
+
 // How many names each list of the first edition has.
-const BOOLEANS: usize = 21;
+pub const BOOLEANS: usize = 21;
 
-const NUMBERS: usize = 8;
+pub const NUMBERS: usize = 8;
 
-const STRINGS: usize = 138;
+pub const STRINGS: usize = 138;
 
 // All names, each as a number whose bytes, low byte first, are the name's.
 const NAMES: [u64; 167] = [
@@ -199,6 +201,15 @@ pub enum Name {
     Packed(u64),
     // 17: the first edition's list has no such place
     Beyond,
+}
+
+// What a name is looked up as.
+pub enum Found {
+    Boolean(Place),
+    Number(Place),
+    String(Place),
+    // the edition knows no such name
+    Unknown,
 }
 
 fn packed_name(k: usize) -> u64

@@ -17,6 +17,7 @@ use Rattle.signed.specs.Signed.{low32}
 use Rattle.signed.proofs.Laws.{low-bits}
 use Rattle.expansion.specs.declared.Base.{Base}
 use Rattle.expansion.specs.declared.Base.the-variants.{Decimal}
+use Rattle.expansion.specs.Limits.{printedMost}
 use Rattle.expansion.specs.Emit.{emitted}
 use Rattle.expansion.specs.Print.{digits, sign, numeral, printed}
 use Rattle.print.specs.declared.Numeral.{Numeral}
@@ -109,7 +110,7 @@ pub record Printing (base : Base) (zeros : Bool) (width : ℕ) (v : ℤ) (n : Nu
   pub width-fits : width < 256
 
 module _ {base : Base} {zeros : Bool} {width : ℕ} {v : ℤ} {n : Numeral} {count sign missing : ℕ} (p : Printing base zeros width v n count sign missing) where
-  pub printing-short : count + sign + missing ≤ 255
+  pub printing-short : count + sign + missing ≤ printedMost
   printing-short =
       let few = digits-word (n .radix) (n .letters) (n .magnitude) (p .numeral-of .radix-least) (p .magnitude-fits) in
       omega (arith, few, p .count-is, p .sign-is, sign-short (n .minus), p .missing-is, p .width-fits)

@@ -6,6 +6,7 @@ ghost use mathlib.Core.List.{[], _∷_};
 ghost use Prim.Native.Nat.{ℕ, _+_, _-_, _≤_, _<_};
 ghost use lib.ListN.{length, replicate};
 ghost use Rattle.base.specs.Overwrite.{putAt};
+ghost use Rattle.expansion.specs.Limits.{printedMost, outputMost};
 ghost use Rattle.expansion.specs.Print.{digitByte, digits, printed};
 ghost use Rattle.expansion.specs.Emit.{emitted};
 ghost use Rattle.print.specs.Numeral.{minusSign, front, NumeralOf, Plain};
@@ -192,8 +193,8 @@ fn is_plain(n: Numeral, width: u8) -> bool
 
 // Puts decimal digits where they fit, and gives their length in any case.
 fn put_plain(out: &mut [u8], at: usize, n: u32) -> usize
-    requires { ⌜ at ≤ 255000 ⌝ }
-    ensures { λ r. ⌜ (r ≡ length (digits 10 97 n)) × (r ≤ 255) × (now (out .exit) ≡ emitted (now (out .entry)) at (digits 10 97 n)) ⌝ }
+    requires { ⌜ at ≤ outputMost ⌝ }
+    ensures { λ r. ⌜ (r ≡ length (digits 10 97 n)) × (r ≤ printedMost) × (now (out .exit) ≡ emitted (now (out .entry)) at (digits 10 97 n)) ⌝ }
 {
     let count = count_digits(n, 10);
     if out.len() < at + count {
@@ -205,8 +206,8 @@ fn put_plain(out: &mut [u8], at: usize, n: u32) -> usize
 
 // Puts a number in a base where it fits, and gives its length in any case.
 pub fn put_number(out: &mut [u8], at: usize, base: Base, zero: bool, width: u8, value: i32) -> usize
-    requires { ⌜ at ≤ 255000 ⌝ }
-    ensures { λ r. ⌜ (r ≡ length (printed base zero width value)) × (r ≤ 255) × (now (out .exit) ≡ emitted (now (out .entry)) at (printed base zero width value)) ⌝ }
+    requires { ⌜ at ≤ outputMost ⌝ }
+    ensures { λ r. ⌜ (r ≡ length (printed base zero width value)) × (r ≤ printedMost) × (now (out .exit) ≡ emitted (now (out .entry)) at (printed base zero width value)) ⌝ }
 {
     let n = numeral_of(base, value);
     if is_plain(n, width) {

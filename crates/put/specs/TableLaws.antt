@@ -34,7 +34,7 @@ map-stateOf {A} {B} g k x = by-tests (eqb k 0) (eqb k 1)
     by-tests false false = refl
 
 -- a content counts only where the kind is present
-state-other : {A : Type 0} (k : ℕ) (x y : A) → (k ≡ 1 → ⊥) → stateOf k x ≡ stateOf k y
+pub state-other : {A : Type 0} (k : ℕ) (x y : A) → (k ≡ 1 → ⊥) → stateOf k x ≡ stateOf k y
 unfolding stateOf
 state-other k x y e = rw (ne-eqb k 1 e)
 

@@ -26,7 +26,9 @@ use Rattle.entry.specs.Answer.{Answer, refused, gives, mapAnswer, isGiven, buff
 use Rattle.entry.specs.Asking.{Opening, opening, askingBoolean, askingNumber, askingString}
 use Rattle.entry.specs.Writing.{Handed, writing}
 use Rattle.entry.specs.Merging.{merging}
+use Rattle.names.specs.Names.{firstEdition}
 use Rattle.names.specs.Naming.{naming}
+use Rattle.text.specs.Compiling.{compiling}
 use Rattle.expansion.specs.Expanding.{Expanding, Counts, counted, lastingAfter, outputAfter}
 
 abbrev pub edition : ℕ → ℕ → ℕ → Edition
@@ -112,6 +114,11 @@ pub record WrittenNumber (e : Edition) (h : Handed) (before after : List ℕ) (r
 pub record MergedNumber (e : Edition) (a b : List ℕ) (before after : List ℕ) (r : ℕ) : Type 0 where
   pub number : r ≡ numbered length (merging e a b (length before))
   pub buffer : after ≡ bufferAfter before (merging e a b (length before))
+
+-- the number and the buffer that compiling in the first edition leaves
+pub record CompiledNumber (t : List ℕ) (before after : List ℕ) (r : ℕ) : Type 0 where
+  pub number : r ≡ numbered length (compiling firstEdition t (length before))
+  pub buffer : after ≡ bufferAfter before (compiling firstEdition t (length before))
 
 -- ---- expansion
 

@@ -7,7 +7,7 @@ ghost use Rattle.entry.specs.Answer.{mapAnswer};
 ghost use Rattle.entry.specs.Asking.{opening, askingNames};
 ghost use Rattle.writer.specs.Handed.{handed};
 ghost use Rattle.expansion.specs.Expanding.{expanding};
-ghost use Rattle.terminfo_c.specs.Numbers.{edition, numbered, none, partCode, arrayAfter, openingArray, booleanNumber, numberNumber, stringNumber, asking8, namingBy, WrittenNumber, MergedNumber, ExpandedNumber};
+ghost use Rattle.terminfo_c.specs.Numbers.{edition, numbered, none, partCode, arrayAfter, openingArray, booleanNumber, numberNumber, stringNumber, asking8, namingBy, WrittenNumber, MergedNumber, CompiledNumber, ExpandedNumber};
 use caps::Edition;
 use caps::Kind;
 use caps::Place;
@@ -222,6 +222,15 @@ pub extern "C" fn terminfo_merge(
         buffer,
     );
     numbers::merged_number(m)
+}
+
+// Compiles a text in the first edition: the file's length, or the refusal.
+#[no_mangle]
+pub extern "C" fn terminfo_compile(text: &[u8], buffer: &mut [u8]) -> u64
+    ensures { λ r. ⌜ CompiledNumber (now (text .entry)) (now (buffer .entry)) (now (buffer .exit)) r ⌝ }
+{
+    let c = compile::compile(text, buffer);
+    numbers::compiled_number(c)
 }
 
 // The name at a place of a kind's list in the first edition: its bytes, low byte first.

@@ -6,6 +6,8 @@ ghost use Rattle.base.specs.Tabulate.{tabulate};
 ghost use Rattle.entry.specs.Asking.{opening};
 ghost use Rattle.entry.specs.Says.{saysOpened, saysNames, saysBoolean, saysNumber, saysString, saysWritten, saysMerged, fileNumber};
 ghost use Rattle.names.specs.Naming.{saysName};
+ghost use Rattle.text.specs.Compiling.{textNumber, saysCompiled};
+ghost use Rattle.text_laws.specs.Values.{Bounded};
 ghost use Rattle.expansion.specs.Expanding.{saysExpansion};
 ghost use Rattle.terminfo_c.specs.Numbers.{numbered, none, booleanCode, numberCode, stringCode, partCode, openingArray, askedCode, NamesWithin, StringWithin, WrittenWithin, MergedWithin, expansionNumber};
 use caps::Edition;
@@ -23,6 +25,8 @@ use entry::Tables;
 use entry::Written;
 use expansion::Expansion;
 use names::Name;
+use text::Compiled;
+use text::TextRefusal;
 
 // A refusal's number stands in the top byte.
 pub const TOP: u64 = 72057594037927936;
@@ -131,6 +135,31 @@ pub fn merged_number(m: Merged) -> u64
         Merged::Refused(why) => file_number(why) * TOP,
         Merged::Size => 9 * TOP,
         Merged::Room(n) => 8 * TOP + n as u64,
+    }
+}
+
+// A text's refusal: document 01's number.
+fn text_number(why: TextRefusal) -> u64
+    ensures { λ r. ⌜ (r ≡ textNumber why) × (r ≤ 13) ⌝ }
+{
+    match why {
+        TextRefusal::Malformed => 10,
+        TextRefusal::Unknown => 11,
+        TextRefusal::Use => 12,
+        TextRefusal::Limit => 13,
+    }
+}
+
+pub fn compiled_number(c: Compiled) -> u64
+    requires { ⌜ Bounded (saysCompiled c) ⌝ }
+    ensures { λ r. ⌜ r ≡ numbered (λ n. n) (saysCompiled c) ⌝ }
+{
+    match c {
+        Compiled::File(n) => n as u64,
+        Compiled::Length => TOP,
+        Compiled::Refused(why, place) => text_number(why) * TOP + place as u64,
+        Compiled::Size => 9 * TOP,
+        Compiled::Room(n) => 8 * TOP + n as u64,
     }
 }
 

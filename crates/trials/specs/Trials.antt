@@ -26,6 +26,10 @@ use Rattle.expansion.specs.Print.{digitsFrom, digits, numeral, printed}
 use Rattle.expansion.specs.Machine.{applied, inverted, character, loaded, stored, incremented, arity, effect, performed, taking, passing, passed, running, run}
 use Rattle.expansion.specs.Expanding.{Expanding, ended, formed, expanding}
 use Rattle.entry.specs.Asking.{opening, asking, askingNumber}
+use Rattle.base.specs.Loop.{turns, loop}
+use Rattle.names.specs.Names.{firstEdition}
+use Rattle.text.specs.Bytes as Bytes
+use Rattle.text.specs.Strings as Strings
 
 -- what a definition gives, and what the document says, as numbers
 pub record Trial : Type 0 where
@@ -34,10 +38,6 @@ pub record Trial : Type 0 where
 
 abbrev pub row : List ℕ → List ℕ → Trial
 row found expected = record { found = found; expected = expected }
-
--- the first edition
-abbrev pub first : Edition
-first = record { booleans = 21; numbers = 8; strings = 138 }
 
 -- a file with the name `a`, no boolean, no string, and so many numbers
 abbrev pub named : ℕ → List ℕ → List ℕ
@@ -58,6 +58,13 @@ codes (join c s) = code c ∷ codes s
 abbrev pub escaped : String → List ℕ
 escaped s = 27 ∷ codes s
 
+-- the same behind a backslash, and what a string of source text stands for
+abbrev pub backslashed : String → List ℕ
+backslashed s = 92 ∷ codes s
+
+abbrev pub content : List ℕ → List ℕ
+content t = Strings.bytesOf (Strings.readAt t 0)
+
 -- a refusal's number and values; or 0, the steps and the output
 abbrev pub expanded : Answer Expanding → List ℕ
 expanded (refused n v) = n ∷ v
@@ -77,11 +84,11 @@ trials =
     -- P1: sizes 32, 21, 8, 138, 34 give 392
     row (sizeOf (record { names = 32; booleans = 21; numbers = 8; strings = 138; table = 34 }) ∷ []) (392 ∷ [])
     -- P2: a 14-byte file, name `a`, all counts 0, is accepted
-    ∷ row (numberOf (opening first (named 0 [])) ∷ []) (0 ∷ [])
+    ∷ row (numberOf (opening firstEdition (named 0 [])) ∷ []) (0 ∷ [])
     -- P3: number 32,767 present, 32,768 refused (6), 65,534 cancelled
-    ∷ row (told (askingNumber first (named 1 (255 ∷ 127 ∷ [])) (place 0))) (0 ∷ 1 ∷ 32767 ∷ [])
-    ∷ row (numberOf (opening first (named 1 (0 ∷ 128 ∷ []))) ∷ []) (6 ∷ [])
-    ∷ row (told (askingNumber first (named 1 (254 ∷ 255 ∷ [])) (place 0))) (0 ∷ 2 ∷ [])
+    ∷ row (told (askingNumber firstEdition (named 1 (255 ∷ 127 ∷ [])) (place 0))) (0 ∷ 1 ∷ 32767 ∷ [])
+    ∷ row (numberOf (opening firstEdition (named 1 (0 ∷ 128 ∷ []))) ∷ []) (6 ∷ [])
+    ∷ row (told (askingNumber firstEdition (named 1 (254 ∷ 255 ∷ [])) (place 0))) (0 ∷ 2 ∷ [])
     -- P4: `\E=%p1%' '%+%c%p2%' '%+%c` at 3, 12: bytes 27 61 35 44, 10 steps
     ∷ row (at (escaped "=%p1%' '%+%c%p2%' '%+%c") (pos 3) (pos 12)) (0 ∷ 10 ∷ 27 ∷ 61 ∷ 35 ∷ 44 ∷ [])
     -- P5: `\E&a%p2%02dc%p1%02dY` at 3, 12: `\E&a12c03Y`
@@ -102,8 +109,14 @@ trials =
     -- P11: 20 pushes succeed, the 21st is 16
     ∷ row (at (pushes 20) (pos 0) (pos 0)) (0 ∷ 20 ∷ [])
     ∷ row (at (pushes 21) (pos 0) (pos 0)) (16 ∷ 60 ∷ [])
+    -- P12: `\0`, `^@`, `\000` give 128; `\47` 39; `^h` 8
+    ∷ row (content (backslashed "0,")) (128 ∷ [])
+    ∷ row (content (codes "^@,")) (128 ∷ [])
+    ∷ row (content (backslashed "000,")) (128 ∷ [])
+    ∷ row (content (backslashed "47,")) (39 ∷ [])
+    ∷ row (content (codes "^h,")) (8 ∷ [])
     ∷ []
 
 pub trials-hold : map (λ (t : Trial). t .found) trials ≡ map (λ (t : Trial). t .expected) trials
-unfolding trials opening okEdition reading sizesOf word okCounts okNames scan okBooleans okBoolean okPad okNumbers okSlot okStrings asking numberIn slotIn slotOf low32 wrap add subtract multiply divide remainder singles found argumentAt quotedAt decimal bracedAt storeAt loadAt formatAt widthAt percentAt itemAt classOf classAt afterIf afterThen afterElse afterEnd nesting formFrom formOf digitsFrom digits numeral printed applied inverted character loaded stored incremented arity effect performed taking passing passed running run ended formed expanding
+unfolding trials opening okEdition reading sizesOf word okCounts okNames scan okBooleans okBoolean okPad okNumbers okSlot okStrings asking numberIn slotIn slotOf low32 wrap add subtract multiply divide remainder singles found argumentAt quotedAt decimal bracedAt storeAt loadAt formatAt widthAt percentAt itemAt classOf classAt afterIf afterThen afterElse afterEnd nesting formFrom formOf digitsFrom digits numeral printed applied inverted character loaded stored incremented arity effect performed taking passing passed running run ended formed expanding turns loop Bytes.isBlank Bytes.digitOf Bytes.isIn Bytes.runEnd Strings.letterOf Strings.octalOf Strings.escapeAt Strings.isControl Strings.caretAt Strings.lineEndAt Strings.itemAt Strings.stored Strings.readTurn Strings.readFrom Strings.bytesOf
 trials-hold = refl

@@ -43,7 +43,7 @@ enough e h t =
       stringLengths = f .1 .1 .1 .1;
     }
 
-edition-facts : (e : Edition) → okEdition e ≡ true → (e .booleans ≤ booleansMost) × ((e .numbers ≤ numbersMost) × (e .strings ≤ stringsMost))
+pub edition-facts : (e : Edition) → okEdition e ≡ true → (e .booleans ≤ booleansMost) × ((e .numbers ≤ numbersMost) × (e .strings ≤ stringsMost))
 unfolding okEdition
 edition-facts e t =
     let b = leb (e .booleans) booleansMost in
@@ -89,7 +89,7 @@ pub lent-at : (h : Handed) (n : ℕ) → every (isLent h) n ≡ true
     → (i : ℕ) → i < n → getD (h .stringKinds) i 0 ≡ 1 → getD (h .stringStarts) i 0 + getD (h .stringLengths) i 0 ≤ length (h .lent)
 lent-at h n t i l = lent-fact h i (every-at (isLent h) n i t l)
 
-total-most : (kinds lengths : List ℕ) (n : ℕ) → ((i : ℕ) → i < n → getD kinds i 0 ≡ 1 → getD lengths i 0 ≤ contentMost) → total kinds lengths n ≤ 1001 * n
+pub total-most : (kinds lengths : List ℕ) (n : ℕ) → ((i : ℕ) → i < n → getD kinds i 0 ≡ 1 → getD lengths i 0 ≤ contentMost) → total kinds lengths n ≤ 1001 * n
 unfolding total
 total-most kinds lengths zero h = omega arith
 total-most kinds lengths (suc n) h =

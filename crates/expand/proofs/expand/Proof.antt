@@ -8,7 +8,8 @@ use borrow.Author.Needs.{needs}
 use borrow.Author.Tests.{le-leb, lt-leb}
 use borrow.Rule.Slice.PartMut.{midOf, mid-len}
 use Rattle.expansion.specs.Machine.{run}
-use Rattle.expansion.specs.Expanding.{stringMost, formed, expanding}
+use Rattle.expansion.specs.Limits.{stringMost}
+use Rattle.expansion.specs.Expanding.{formed, expanding}
 use Rattle.expand.proofs.AnswerLaws.{answer-part}
 use Rattle.expand.proofs.expand.Statement.{statement}
 use Rattle.expand.proofs.expand.Tie as tie
@@ -35,12 +36,12 @@ returns-3 c =
 returns-4 : tie.Need-returns-4
 unfolding expanding formed
 returns-4 c =
-    let a = c .before .before .before .before .before .before .before .before .before .before .before .args in
+    let a = c .before .before .before .before .before .before .before .before .before .before .before .before .before .args in
     let k = length (a .out .now) - a .at in
     let y = run (a .string .now) (a .arguments) (a .lasting .values) in
     let e : length (midOf (a .at) k (a .out .now)) ≡ k = mid-len (a .at) (length (a .out .now)) (a .out .now) (omega arith) in
-    let p = rw e at (c .before .before .expand-into .ensures) in
-    rw (le-leb (a .at) (length (a .out .now)) (c .before .before .before .before .before .before .before .before .if1 .left), le-leb (length (a .string .now)) stringMost (c .before .before .before .before .before .before .before .if2 .left), sym (c .before .before .before .before .before .before .form-of .ensures) ∙ c .before .before .before .before .enum-told .given .1)
+    let p = rw e at (c .before .before .before .expand-into .ensures) in
+    rw (le-leb (a .at) (length (a .out .now)) (c .before .before .before .before .before .before .before .before .before .before .if1 .left), le-leb (length (a .string .now)) stringMost (c .before .before .before .before .before .before .before .before .before .if2 .left), sym (c .before .before .before .before .before .before .before .before .form-of .ensures) ∙ c .before .before .before .before .before .before .enum-told .given .1)
     (answer-part y (a .lasting .values) (a .out .now) _ (a .at) k _ (omega arith) p)
 
 pub expand-spec : {M : Type 1} → statement M
@@ -54,6 +55,7 @@ expand-spec =
     (λ c κs. search needs)
     (λ c. search needs)
     (λ c κs. search needs)
+    (λ c. search needs)
     (λ c. search needs)
     (λ c. search needs)
     (λ c. search needs)

@@ -1,6 +1,7 @@
 -- `expand::expand_into` meets its contract: the first run's answer decides, and the output is that of the run, copied or put once more.
 -- Assumes nothing.
 use mathlib.Core.Path.{refl, ap, _∙_}
+use native.Mathlib.Omega.{arith}
 use borrow.Author.Needs.{needs}
 use Rattle.base.specs.Overwrite.{putAt}
 use Rattle.expansion.specs.Machine.{run}
@@ -11,41 +12,40 @@ use Rattle.expand.proofs.expand_into.Tie as tie
 
 returns : tie.Need-returns
 returns c =
-    let a = c .before .before .before .before .before .before .before .before .before .before .before .before .before .args in
+    let a = c .before .before .before .before .before .before .before .before .before .before .before .before .before .before .before .args in
     let y = run (a .s .now) (a .arguments) (a .lasting .values) in
-    rw (c .refused3 .ensures) (answer-room _ (a .lasting .values) (a .out .now) y (c .before .before .before .before .before .before .run .result) _ _ _ (c .before .before .before .before .before .before .run .ensures .0) (c .before .before .before .length .given .1) (c .before .if1 .taken))
+    rw (c .refused3 .ensures) (answer-room _ (a .lasting .values) (a .out .now) y (c .before .before .before .before .before .before .before .run .result) _ _ _ (c .before .before .before .before .before .before .before .run .ensures .0) (c .before .before .before .length .given .1) (c .before .if1 .taken))
 
 returns-2 : tie.Need-returns-2
 returns-2 c =
-    let a = c .before .before .before .before .before .before .before .before .before .before .before .before .args in
+    let a = c .before .before .before .before .before .before .before .before .before .before .before .before .before .before .args in
     let y = run (a .s .now) (a .arguments) (a .lasting .values) in
-    rw (c .refused .ensures) (answer-failed _ (a .lasting .values) (a .out .now) y (c .before .before .before .before .before .run .result) _ _ _ _ (c .before .before .before .before .before .run .ensures .0) (ap saysRan (c .before .before .i .given .1)) refl)
+    rw (c .refused .ensures) (answer-failed _ (a .lasting .values) (a .out .now) y (c .before .before .before .before .before .before .run .result) _ _ _ _ (c .before .before .before .before .before .before .run .ensures .0) (ap saysRan (c .before .before .i .given .1)) refl)
 
 returns-3 : tie.Need-returns-3
 returns-3 c =
-    let a = c .before .before .before .before .before .before .before .before .before .before .before .before .args in
+    let a = c .before .before .before .before .before .before .before .before .before .before .before .before .before .before .args in
     let y = run (a .s .now) (a .arguments) (a .lasting .values) in
-    rw (c .refused2 .ensures) (answer-failed _ (a .lasting .values) (a .out .now) y (c .before .before .before .before .before .run .result) _ _ _ _ (c .before .before .before .before .before .run .ensures .0) (ap saysRan (c .before .before .i2 .given .1)) refl)
+    rw (c .refused2 .ensures) (answer-failed _ (a .lasting .values) (a .out .now) y (c .before .before .before .before .before .before .run .result) _ _ _ _ (c .before .before .before .before .before .before .run .ensures .0) (ap saysRan (c .before .before .i2 .given .1)) refl)
 
 returns-4 : tie.Need-returns-4
 returns-4 c =
-    let a = c .before .before .before .before .before .before .before .before .before .before .before .before .before .before .before .before .before .args in
+    let a = c .before .before .before .before .before .before .before .before .before .before .before .before .before .before .before .before .before .before .before .args in
     let y = run (a .s .now) (a .arguments) (a .lasting .values) in
-    answer-given _ (a .lasting .values) (a .out .now) y (c .before .before .before .before .before .before .before .before .before .before .run .result) _ _ _ _ (c .before .before .before .before .before .before .before .before .before .before .run .ensures .0) (c .before .before .before .before .before .before .before .length .given .1) (c .before .before .before .before .before .if1 .left)
+    answer-given _ (a .lasting .values) (a .out .now) y (c .before .before .before .before .before .before .before .before .before .before .before .run .result) _ _ _ _ (c .before .before .before .before .before .before .before .before .before .before .before .run .ensures .0) (c .before .before .before .before .before .before .before .length .given .1) (c .before .before .before .before .before .if1 .left)
     (λ m o q e. put-fits y m o _ _ (a .out .now) _ (c .before .before .run-out .ensures) q e (c .before .before .before .before .before .if1 .left))
 
 returns-5 : tie.Need-returns-5
 returns-5 c =
-    let a = c .before .before .before .before .before .before .before .before .before .before .before .before .before .before .before .before .before .before .args in
+    let a = c .before .before .before .before .before .before .before .before .before .before .before .before .before .before .before .before .before .before .before .before .args in
     let y = run (a .s .now) (a .arguments) (a .lasting .values) in
-    answer-given _ (a .lasting .values) (a .out .now) y (c .before .before .before .before .before .before .before .before .before .before .before .run .result) _ _ _ _ (c .before .before .before .before .before .before .before .before .before .before .before .run .ensures .0) (c .before .before .before .before .before .before .before .before .length .given .1) (c .before .before .before .before .before .before .if1 .left)
-    (λ m o q e. c .before .before .copy .ensures ∙ ap (putAt (a .out .now) 0) (front-is _ _ o _ e (put-fits y m o _ _ _ _ (c .before .before .before .before .before .before .before .before .before .before .before .run .ensures .1) q e (c .before .before .before .before .before .if2 .left))))
+    answer-given _ (a .lasting .values) (a .out .now) y (c .before .before .before .before .before .before .before .before .before .before .before .before .run .result) _ _ _ _ (c .before .before .before .before .before .before .before .before .before .before .before .before .run .ensures .0) (c .before .before .before .before .before .before .before .before .length .given .1) (c .before .before .before .before .before .before .if1 .left)
+    (λ m o q e. c .before .before .copy .ensures ∙ ap (putAt (a .out .now) 0) (front-is _ _ o _ e (put-fits y m o _ _ (a .short .now) _ (c .before .before .before .before .before .before .before .before .before .before .before .before .run .ensures .1) q e (omega (arith, c .before .before .before .before .before .if2 .left, c .before .before .before .before .before .before .before .before .before .before .before .before .run .kept .1 .1 .1 .0)))))
 
 pub expand-into-spec : {M : Type 1} → statement M
 expand-into-spec =
     tie.close
     (tie.spec
-    (λ c. search needs)
     (λ c κs. search needs)
     (λ c. search needs)
     (λ c κs. search needs)
@@ -53,12 +53,17 @@ expand-into-spec =
     (λ c κs. search needs)
     (λ c. search needs)
     (λ c κs. search needs)
+    (λ c. search needs)
     returns
     (λ c κs. search needs)
     (λ c κs. search needs)
+    (λ c. search needs)
     returns-2
+    (λ c. search needs)
     returns-3
     (λ c. search needs)
+    (λ c. search needs)
     returns-4
+    (λ c. search needs)
     (λ c. search needs)
     returns-5)

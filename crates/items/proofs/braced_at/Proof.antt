@@ -10,7 +10,8 @@ use borrow.Author.Tests.{not-true, not-false}
 use lib.ListN.{length}
 use mir.Syntax.{w32}
 use mir.Facts.{toZ-pos}
-use Rattle.expansion.specs.Items.{constantMost, byteAt, isDigit, bracedAt}
+use Rattle.expansion.specs.Limits.{constantMost}
+use Rattle.expansion.specs.Items.{byteAt, isDigit, bracedAt}
 use Rattle.items.proofs.Cases.{within-true, bracedFrom, braced-start, braced-step, braced-large, braced-close, braced-other, braced-stop, braced-past, braced-first}
 use Rattle.items.proofs.braced_at.Statement.{statement}
 use Rattle.items.proofs.braced_at.Tie as tie

@@ -1,0 +1,5 @@
+pub mod Held
+pub mod KeepLaws
+pub mod WalkLaws
+pub mod WriteLaws
+pub mod CompileLaws

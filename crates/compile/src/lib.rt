@@ -1,0 +1,121 @@
+// Compiles source text (document 01: Source text, order of text). Proved: `compile` answers every text as `compiling` of text/specs says
+// in the first edition, and a refusal leaves the buffer as it was. Assumed: nothing.
+ghost use mathlib.Core.Path.{_≡_};
+ghost use mathlib.Core.Bool.{true};
+ghost use mathlib.Core.List.{[]};
+ghost use Prim.Native.Nat.{_+_, _<_};
+ghost use lib.ListN.{length};
+ghost use Rattle.caps.specs.Edition.{okEdition};
+ghost use Rattle.entry.specs.Answer.{Leaves, mapAnswer, bufferAfter};
+ghost use Rattle.text.specs.declared.Header.{Header};
+ghost use Rattle.text.specs.declared.Header.the-variants as Headers;
+ghost use Rattle.text.specs.Heading.{headerAt};
+ghost use Rattle.text.specs.Describing.{headed};
+ghost use Rattle.names.specs.Names.{firstEdition};
+ghost use Rattle.text.specs.Compiling.{fitted, compiling, saysCompiled};
+use caps::BOOLEANS_MOST;
+use caps::Edition;
+use caps::NUMBERS_MOST;
+use caps::STRINGS_MOST;
+use text::Compiled;
+use text::Header;
+use text::Line;
+use text::TEXT_MOST;
+use text::TextRefusal;
+
+mod file;
+mod keep;
+mod walk;
+
+// What the fields of a text come to.
+pub enum Walked {
+    Done,
+    // a refusal, and the field's first byte
+    Refused(TextRefusal, usize),
+}
+
+// Compiles a text whose header starts at a place and has its comma at another.
+fn compile_fields(
+    text: &[u8],
+    at: usize,
+    comma: usize,
+    edition: Edition,
+    buffer: &mut [u8],
+) -> Compiled
+    requires { ⌜ (okEdition edition ≡ true) × (headerAt (now text) at ≡ Headers.Right comma) ⌝ }
+    ensures { λ r. ⌜ Leaves (fitted (length (now (buffer .entry))) (headed edition (now (text .entry)) at (Headers.Right comma))) (now (buffer .entry)) (now (buffer .exit)) (saysCompiled r) ⌝ }
+{
+    let mut boolean_kinds = [0u8; BOOLEANS_MOST];
+    let mut number_kinds = [0u8; NUMBERS_MOST];
+    let mut number_values = [0u32; NUMBERS_MOST];
+    let mut string_kinds = [0u8; STRINGS_MOST];
+    let mut string_starts = [0usize; STRINGS_MOST];
+    let mut string_lengths = [0usize; STRINGS_MOST];
+    match walk::walk(
+        text,
+        comma + 1,
+        edition,
+        &mut boolean_kinds,
+        &mut number_kinds,
+        &mut number_values,
+        &mut string_kinds,
+        &mut string_starts,
+        &mut string_lengths,
+    ) {
+        Walked::Done => file::write(
+            text,
+            &text[at..comma],
+            edition,
+            &boolean_kinds,
+            &number_kinds,
+            &number_values,
+            &string_kinds,
+            &string_starts,
+            &string_lengths,
+            buffer,
+        ),
+        Walked::Refused(why, p) => Compiled::Refused(why, p),
+    }
+}
+
+// Compiles a text whose header starts at a place.
+fn compile_headed(text: &[u8], at: usize, edition: Edition, buffer: &mut [u8]) -> Compiled
+    requires { ⌜ (okEdition edition ≡ true) × (at < length (now text)) ⌝ }
+    ensures { λ r. ⌜ Leaves (fitted (length (now (buffer .entry))) (headed edition (now (text .entry)) at (headerAt (now (text .entry)) at))) (now (buffer .entry)) (now (buffer .exit)) (saysCompiled r) ⌝ }
+{
+    match fields::header::header_at(text, at) {
+        Header::Right(comma) => compile_fields(text, at, comma, edition, buffer),
+        Header::Malformed => Compiled::Refused(TextRefusal::Malformed, 0),
+        Header::LongAlias => Compiled::Refused(TextRefusal::Limit, 0),
+    }
+}
+
+// Compiles a text in an edition.
+fn compile_in(text: &[u8], edition: Edition, buffer: &mut [u8]) -> Compiled
+    requires { ⌜ okEdition edition ≡ true ⌝ }
+    ensures { λ r. ⌜ Leaves (compiling edition (now (text .entry)) (length (now (buffer .entry)))) (now (buffer .entry)) (now (buffer .exit)) (saysCompiled r) ⌝ }
+{
+    if TEXT_MOST < text.len() {
+        return Compiled::Length;
+    }
+    match lex::line_at(text, 0) {
+        Line::End => Compiled::Refused(TextRefusal::Malformed, 0),
+        Line::Column(at) => compile_headed(text, at, edition, buffer),
+        Line::Indented(_) => Compiled::Refused(TextRefusal::Malformed, 0),
+    }
+}
+
+// Writes the file of the description in a text at the buffer's start, in the first edition, or refuses and leaves the buffer as it is.
+pub fn compile(text: &[u8], buffer: &mut [u8]) -> Compiled
+    ensures { λ r. ⌜ (saysCompiled r ≡ mapAnswer length (compiling firstEdition (now (text .entry)) (length (now (buffer .entry))))) × (now (buffer .exit) ≡ bufferAfter (now (buffer .entry)) (compiling firstEdition (now (text .entry)) (length (now (buffer .entry))))) ⌝ }
+{
+    compile_in(
+        text,
+        Edition {
+            booleans: names::BOOLEANS,
+            numbers: names::NUMBERS,
+            strings: names::STRINGS,
+        },
+        buffer,
+    )
+}

@@ -1,0 +1,137 @@
+// Judges a field of source text (document 01: Numbers of refusal, 10 to 13). Proved: `judge` answers every text, place and edition as
+// `judging` of text/specs says. Assumed: nothing.
+ghost use mathlib.Core.Path.{_≡_};
+ghost use Prim.Native.Nat.{_<_};
+ghost use lib.ListN.{length};
+ghost use Rattle.names.specs.Names.{ascii};
+ghost use Rattle.names.specs.Lookup.{sameBytes};
+ghost use Rattle.names.specs.declared.Found.the-variants as Capability;
+ghost use Rattle.text.specs.Describing.{isUse, judging};
+ghost use Rattle.judge.specs.Judged.{saysJudged, JudgedIn};
+ghost use Rattle.judge.specs.Kinds.{Judges, JudgesNamed};
+use caps::Edition;
+use caps::Place;
+use entry::CANCELLED;
+use entry::CONTENT_MOST;
+use entry::PRESENT;
+use names::Found;
+use text::Field;
+use text::Form;
+use text::Judged;
+use text::Said;
+use text::TextRefusal;
+
+// The name is `use`.
+fn is_use(name: &[u8]) -> bool
+    ensures { λ r. ⌜ r ≡ sameBytes (now (name .entry)) (ascii "use") ⌝ }
+{
+    if name.len() == 3 {
+        if name[0] == b'u' {
+            if name[1] == b's' {
+                return name[2] == b'e';
+            }
+        }
+    }
+    false
+}
+
+// The field is `use=` and a string.
+fn is_use_field(name: &[u8], form: Form) -> bool
+    ensures { λ r. ⌜ r ≡ isUse (now (name .entry)) form ⌝ }
+{
+    match form {
+        Form::Boolean => false,
+        Form::Cancelled => false,
+        Form::Number(_) => false,
+        Form::LargeNumber => false,
+        Form::String(_, _) => is_use(name),
+    }
+}
+
+// What a form says of a boolean; next is the place past the field.
+fn boolean_by(place: Place, form: Form, next: usize) -> Judged
+    ensures { λ r. ⌜ (Judges (Capability.Boolean place) form next r) ⌝ }
+{
+    match form {
+        Form::Boolean => Judged::Said(Said::Boolean(place, PRESENT), next),
+        Form::Cancelled => Judged::Said(Said::Boolean(place, CANCELLED), next),
+        Form::Number(_) => Judged::Refused(TextRefusal::Unknown),
+        Form::LargeNumber => Judged::Refused(TextRefusal::Unknown), // the kind comes before the limit
+        Form::String(_, _) => Judged::Refused(TextRefusal::Unknown),
+    }
+}
+
+// What a form says of a number.
+fn number_by(place: Place, form: Form, next: usize) -> Judged
+    ensures { λ r. ⌜ (Judges (Capability.Number place) form next r) ⌝ }
+{
+    match form {
+        Form::Boolean => Judged::Refused(TextRefusal::Unknown),
+        Form::Cancelled => Judged::Said(Said::Number(place, CANCELLED, 0), next),
+        Form::Number(v) => Judged::Said(Said::Number(place, PRESENT, v), next),
+        Form::LargeNumber => Judged::Refused(TextRefusal::Limit),
+        Form::String(_, _) => Judged::Refused(TextRefusal::Unknown),
+    }
+}
+
+// What a form says of a string.
+fn string_by(place: Place, form: Form, next: usize) -> Judged
+    ensures { λ r. ⌜ (Judges (Capability.String place) form next r) ⌝ }
+{
+    match form {
+        Form::Boolean => Judged::Refused(TextRefusal::Unknown),
+        Form::Cancelled => Judged::Said(Said::String(place, CANCELLED, 0, 0), next),
+        Form::Number(_) => Judged::Refused(TextRefusal::Unknown),
+        Form::LargeNumber => Judged::Refused(TextRefusal::Unknown),
+        Form::String(i, n) => {
+            if CONTENT_MOST < n {
+                return Judged::Refused(TextRefusal::Limit);
+            }
+            Judged::Said(Said::String(place, PRESENT, i, n), next)
+        }
+    }
+}
+
+// What a form says of the capability that its name was looked up as.
+fn judge_found(found: Found, form: Form, next: usize) -> Judged
+    ensures { λ r. ⌜ (Judges found form next r) ⌝ }
+{
+    match found {
+        Found::Boolean(place) => boolean_by(place, form, next),
+        Found::Number(place) => number_by(place, form, next),
+        Found::String(place) => string_by(place, form, next),
+        Found::Unknown => Judged::Refused(TextRefusal::Unknown),
+    }
+}
+
+// A field that isn't dropped.
+fn judge_named(name: &[u8], form: Form, next: usize, edition: Edition) -> Judged
+    ensures { λ r. ⌜ (JudgesNamed edition (now (name .entry)) form next r) ⌝ }
+{
+    if is_use_field(name, form) {
+        return Judged::Refused(TextRefusal::Use);
+    }
+    judge_found(names::find::find(name, edition), form, next)
+}
+
+// The field whose first byte is at a place.
+pub fn judge(text: &[u8], at: usize, edition: Edition) -> Judged
+    requires { ⌜ at < length (now text) ⌝ }
+    ensures { λ r. ⌜ (saysJudged (now (text .entry)) at r ≡ judging edition (now (text .entry)) at) × JudgedIn edition (now (text .entry)) r ⌝ }
+{
+    match fields::field_at(text, at) {
+        Field::Right {
+            dropped,
+            name,
+            end,
+            form,
+            next,
+        } => {
+            if dropped {
+                return Judged::Said(Said::Nothing, next);
+            }
+            judge_named(&text[name..end], form, next, edition)
+        }
+        Field::Malformed => Judged::Refused(TextRefusal::Malformed),
+    }
+}

@@ -1,0 +1,12 @@
+-- When a string's bytes can be put.
+-- Assumes nothing.
+use mathlib.Core.Path.{_≡_}
+use mathlib.Core.List.{List}
+use Prim.Native.Nat.{ℕ, _+_, _≤_}
+use lib.ListN.{length}
+use Rattle.text.specs.Strings.{malformed, readAt, bytesOf}
+
+-- a string stands at from, and its bytes have room in b from at on
+pub record Fits (b : List ℕ) (at : ℕ) (t : List ℕ) (from : ℕ) : Type 0 where
+  pub whole : readAt t from ≡ malformed → ⊥
+  pub room : at + length (bytesOf (readAt t from)) ≤ length b

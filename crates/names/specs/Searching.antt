@@ -1,0 +1,23 @@
+-- A name as the code looks for it in its table.
+-- Assumes nothing.
+use mathlib.Core.Bool.{Bool, _&&_, not}
+use mathlib.Core.List.{List}
+use Prim.Native.Nat.{ℕ, _+_}
+use lib.Dec.{eqb, leb}
+use lib.ListN.{length, getD}
+use Rattle.base.specs.If.{if_then_else_}
+use Rattle.base.specs.Scan.{scan}
+use Rattle.word.specs.Nul.{nulFrom}
+use Rattle.names.specs.Naming.{packed, packedNames}
+
+-- at most eight bytes, none of them NUL
+unfoldable pub fitsTable : List ℕ → Bool
+fitsTable n = leb (length n) 8 && eqb (nulFrom n 0 (length n)) (length n)
+
+-- the number that stands for a name in the table; 0, which the table doesn't hold, for bytes that are no name of it
+unfoldable pub sought : List ℕ → ℕ
+sought n = if fitsTable n then packed n else 0
+
+-- of the count numbers from first on, the place of one, counted from first; count where it isn't there
+unfoldable pub searching : ℕ → ℕ → ℕ → ℕ
+searching first count w = scan (λ i. not (eqb (getD packedNames (first + i) 0) w)) 0 count

@@ -1,0 +1,51 @@
+-- What compiling gives (document 01: Source text; Numbers of refusal, order of text).
+-- Assumes nothing.
+use mathlib.Core.Bool.{Bool, not}
+use mathlib.Core.List.{List, [], _∷_}
+use Prim.Native.Nat.{ℕ}
+use lib.Dec.{leb}
+use lib.ListN.{length}
+use Rattle.base.specs.If.{if_then_else_}
+use Rattle.caps.specs.declared.Edition.{Edition}
+use Rattle.entry.specs.Limits.{fileMost, givenNamesMost}
+use Rattle.entry.specs.Answer.{Answer, refused, gives}
+use Rattle.entry.specs.Reading.{Entry}
+use Rattle.entry.specs.Writing.{encode}
+use Rattle.text.specs.declared.TextRefusal.{TextRefusal}
+use Rattle.text.specs.declared.TextRefusal.the-variants as R
+use Rattle.text.specs.declared.Compiled.{Compiled}
+use Rattle.text.specs.declared.Compiled.the-variants as C
+use Rattle.text.specs.Bytes.{textMost}
+use Rattle.text.specs.Describing.{describing}
+
+-- "then names total above 127 (13), 9, 8"; room is the buffer's length, and what is given is the file
+unfoldable pub fitting : ℕ → Entry → Answer (List ℕ)
+fitting room x =
+    if not (leb (length (x .names)) givenNamesMost) then refused 13 (0 ∷ [])
+    else if not (leb (length (encode x)) fileMost) then refused 9 []
+    else if not (leb (length (encode x)) room) then refused 8 (length (encode x) ∷ [])
+    else gives (encode x)
+
+abbrev pub fitted : ℕ → Answer Entry → Answer (List ℕ)
+fitted room (refused n v) = refused n v
+fitted room (gives x) = fitting room x
+
+-- "Text: 1 first; then the first bad field"
+unfoldable pub compiling : Edition → List ℕ → ℕ → Answer (List ℕ)
+compiling e t room = if not (leb (length t) textMost) then refused 1 [] else fitted room (describing e t)
+
+-- ---- what each case of an answer says
+
+abbrev pub textNumber : TextRefusal → ℕ
+textNumber R.Malformed = 10
+textNumber R.Unknown = 11
+textNumber R.Use = 12
+textNumber R.Limit = 13
+
+-- what is given is the file's length
+abbrev pub saysCompiled : Compiled → Answer ℕ
+saysCompiled (C.File n) = gives n
+saysCompiled C.Length = refused 1 []
+saysCompiled (C.Refused r p) = refused (textNumber r) (p ∷ [])
+saysCompiled C.Size = refused 9 []
+saysCompiled (C.Room n) = refused 8 (n ∷ [])

@@ -1,0 +1,9 @@
+pub mod Runs
+pub mod Reads
+pub mod LineLaws
+pub mod NumberLaws
+pub mod FieldLaws
+pub mod HeadingLaws
+pub mod DescribingLaws
+pub mod Compiled
+pub mod Values

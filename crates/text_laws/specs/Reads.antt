@@ -1,0 +1,305 @@
+-- Strings of source text: an item ends past its place, so reading ends; what reading gives.
+-- Assumes nothing.
+use mathlib.Core.Path.{_≡_, refl, sym, ap, _∙_, subst}
+use mathlib.Core.Bool.{Bool, true, false}
+use mathlib.Core.List.{List, [], _∷_, _++_}
+use Prim.Native.Nat.{ℕ, _+_, _-_, _*_, _≤_, _<_}
+use native.Mathlib.Omega.{arith}
+use native.Mathlib.Nat.{le-refl, add-zero}
+use lib.Dec.{eqb, leb, ltb}
+use borrow.Author.Tests.{eq-eqb}
+use lib.ListN.{length, getD, set, length-append, List·getD-eq-default}
+use Rattle.base.specs.If.{if_then_else_, true-false, below-or}
+use Rattle.base.specs.Loop.{go, stop, loop-go, loop-stop, loop-ind}
+use Rattle.base.specs.Overwrite.{putAt, put-nil, put-store, length-put}
+use Rattle.base.specs.Tabulate.{Each}
+use Rattle.text.specs.declared.Class.the-variants as C
+use Rattle.text.specs.declared.Content.the-variants as W
+use Rattle.text.specs.declared.Item.{Item}
+use Rattle.text.specs.declared.Item.the-variants.{End, Byte, Removed, Malformed}
+use Rattle.text.specs.Bytes.{between, isBlank, runEnd}
+use Rattle.text.specs.Strings.{digitAt, letterOf, octalOf, escapeAt, isControl, caretAt, lineEndAt, itemAt, stored, Reading, Read, whole, malformed, readTurn, readFrom, readAt, bytesOf, contentOf}
+use Rattle.text_laws.specs.Runs.{run-ge}
+
+-- a choice has a property that both its values have
+pub if-both : {A : Type 0} (P : A → Type 0) (b : Bool) {x y : A} → (b ≡ true → P x) → (b ≡ false → P y) → P (if b then x else y)
+if-both P true hx hy = hx refl
+if-both P false hx hy = hy refl
+
+-- ---- items
+
+-- an item ends past a place
+abbrev pub Forward : ℕ → Item → Type 0
+Forward i End = Unit {0}
+Forward i (Byte b k) = i < k
+Forward i (Removed k) = i < k
+Forward i Malformed = Unit {0}
+
+octal-forward : (a b c i j : ℕ) → j ≤ i → Forward j (octalOf a b c i)
+unfolding octalOf
+octal-forward a b c i j h =
+    if-both (Forward j) (ltb b 8)
+    (λ _. if-both (Forward j) (ltb c 8) (λ _. if-both (Forward j) (leb (a * 64 + b * 8 + c) 255) (λ _. three) (λ _. tt)) (λ _. two))
+    (λ _. one)
+  where
+    one : j < i + 1
+    one = omega arith
+
+    two : j < i + 2
+    two = omega arith
+
+    three : j < i + 3
+    three = omega arith
+
+pub item-forward : (t : List ℕ) (i : ℕ) → Forward i (itemAt t i)
+unfolding itemAt escapeAt caretAt lineEndAt
+item-forward t i =
+    if-both (Forward i) (eqb (getD t i 0) 44) (λ _. tt)
+    (λ _. if-both (Forward i) (eqb (getD t i 0) 92)
+    (λ _. if-both (Forward i) (ltb (digitAt t (i + 1)) 8)
+    (λ _. octal-forward _ _ _ (i + 1) i (omega arith))
+    (λ _. if-both (Forward i) (eqb (letterOf (getD t (i + 1) 0)) 0) (λ _. tt) (λ _. second)))
+    (λ _. if-both (Forward i) (eqb (getD t i 0) 94)
+    (λ _. if-both (Forward i) (eqb (getD t (i + 1) 0) 63) (λ _. second)
+    (λ _. if-both (Forward i) (isControl (getD t (i + 1) 0)) (λ _. second) (λ _. tt)))
+    (λ _. if-both (Forward i) (eqb (getD t i 0) 10)
+    (λ _. if-both (Forward i) (isBlank (getD t (i + 1) 0)) (λ _. line) (λ _. tt))
+    (λ _. if-both (Forward i) (between 32 126 (getD t i 0)) (λ _. first) (λ _. tt)))))
+  where
+    first : i < i + 1
+    first = omega arith
+
+    second : i < i + 1 + 1
+    second = omega arith
+
+    line : i < runEnd C.Blank t (i + 1 + 1)
+    line = let h = run-ge C.Blank t (i + 1 + 1) in omega arith
+
+-- past the text's end
+pub item-past : (t : List ℕ) (i : ℕ) → length t ≤ i → itemAt t i ≡ Malformed
+unfolding itemAt
+item-past t i h = rw (List·getD-eq-default t 0 h)
+
+-- ---- one turn of reading, by the item at its place
+
+module _ (t : List ℕ) (s : Reading) where
+  turn-end : itemAt t (s .at) ≡ End → readTurn t s ≡ stop (whole (s .bytes) (s .at))
+  unfolding readTurn
+  turn-end e = rw (e, readTurn)
+
+  turn-byte : (b k : ℕ) → itemAt t (s .at) ≡ Byte b k → readTurn t s ≡ go (record { at = k; bytes = s .bytes ++ (stored b ∷ []) })
+  unfolding readTurn
+  turn-byte b k e = rw (e, readTurn)
+
+  turn-removed : (k : ℕ) → itemAt t (s .at) ≡ Removed k → readTurn t s ≡ go (record { at = k; bytes = s .bytes })
+  unfolding readTurn
+  turn-removed k e = rw (e, readTurn)
+
+  turn-malformed : itemAt t (s .at) ≡ Malformed → readTurn t s ≡ stop malformed
+  unfolding readTurn
+  turn-malformed e = rw (e, readTurn)
+
+-- a turn that goes on goes forward, within the text
+read-falls : (t : List ℕ) (s s′ : Reading) → readTurn t s ≡ go s′ → length t - s′ .at < length t - s .at
+read-falls t s s′ e = below-or (s .at) (length t) (λ l. by-item (itemAt t (s .at)) refl (item-forward t (s .at)) l) past
+  where
+    by-item : (u : Item) → itemAt t (s .at) ≡ u → Forward (s .at) u → s .at < length t → length t - s′ .at < length t - s .at
+    by-item End h f l = let z : _≡_ {A = ℕ} 0 1 = cc (turn-end t s h) in omega arith
+    by-item (Byte b k) h f l = let p : record { at = k; bytes = s .bytes ++ (stored b ∷ []) } ≡ s′ = cc (turn-byte t s b k h) in let q = ap (λ (r : Reading). r .at) p in omega arith
+    by-item (Removed k) h f l = let p : record { at = k; bytes = s .bytes } ≡ s′ = cc (turn-removed t s k h) in let q = ap (λ (r : Reading). r .at) p in omega arith
+    by-item Malformed h f l = let z : _≡_ {A = ℕ} 0 1 = cc (turn-malformed t s h) in omega arith
+
+    past : length t ≤ s .at → length t - s′ .at < length t - s .at
+    past l = let z : _≡_ {A = ℕ} 0 1 = cc (turn-malformed t s (item-past t (s .at) l)) in omega arith
+
+module _ (t : List ℕ) (s : Reading) where
+  pub read-end : itemAt t (s .at) ≡ End → readFrom t s ≡ whole (s .bytes) (s .at)
+  unfolding readFrom
+  read-end e = loop-stop _ (readTurn t) (read-falls t) malformed s _ (turn-end t s e)
+
+  pub read-malformed : itemAt t (s .at) ≡ Malformed → readFrom t s ≡ malformed
+  unfolding readFrom
+  read-malformed e = loop-stop _ (readTurn t) (read-falls t) malformed s _ (turn-malformed t s e)
+
+  pub read-byte : (b k : ℕ) → itemAt t (s .at) ≡ Byte b k → readFrom t s ≡ readFrom t (record { at = k; bytes = s .bytes ++ (stored b ∷ []) })
+  unfolding readFrom
+  read-byte b k e = loop-go _ (readTurn t) (read-falls t) malformed s _ (turn-byte t s b k e)
+
+  pub read-removed : (k : ℕ) → itemAt t (s .at) ≡ Removed k → readFrom t s ≡ readFrom t (record { at = k; bytes = s .bytes })
+  unfolding readFrom
+  read-removed k e = loop-go _ (readTurn t) (read-falls t) malformed s _ (turn-removed t s k e)
+
+-- what holds of a string where it ends, and where it is malformed, and before an item if behind it, holds of what is read
+module _ (t : List ℕ) (Q : Reading → Read → Type 0)
+    (at-end : (s : Reading) → itemAt t (s .at) ≡ End → Q s (whole (s .bytes) (s .at)))
+    (at-malformed : (s : Reading) → Q s malformed)
+    (at-byte : (s : Reading) (r : Read) (b k : ℕ) → s .at < k → Q (record { at = k; bytes = s .bytes ++ (stored b ∷ []) }) r → Q s r)
+    (at-removed : (s : Reading) (r : Read) (k : ℕ) → s .at < k → Q (record { at = k; bytes = s .bytes }) r → Q s r) where
+  clash : {A : Type 0} → _≡_ {A = ℕ} 0 1 → A
+  clash z = absurd (omega arith)
+
+  at-stop : (s : Reading) (r : Read) → readTurn t s ≡ stop r → (u : Item) → itemAt t (s .at) ≡ u → Q s r
+  at-stop s r e End i = let p : whole (s .bytes) (s .at) ≡ r = cc (turn-end t s i) in subst (Q s) p (at-end s i)
+  at-stop s r e (Byte b k) i = clash (cc (turn-byte t s b k i))
+  at-stop s r e (Removed k) i = clash (cc (turn-removed t s k i))
+  at-stop s r e Malformed i = let p : malformed ≡ r = cc (turn-malformed t s i) in subst (Q s) p (at-malformed s)
+
+  at-go : (s s′ : Reading) (r : Read) → readTurn t s ≡ go s′ → Q s′ r → (u : Item) → itemAt t (s .at) ≡ u → Forward (s .at) u → Q s r
+  at-go s s′ r e h End i f = clash (cc (turn-end t s i))
+  at-go s s′ r e h (Byte b k) i f =
+      let p : s′ ≡ record { at = k; bytes = s .bytes ++ (stored b ∷ []) } = cc (turn-byte t s b k i) in
+      at-byte s r b k f (subst (λ (q : Reading). Q q r) p h)
+  at-go s s′ r e h (Removed k) i f =
+      let p : s′ ≡ record { at = k; bytes = s .bytes } = cc (turn-removed t s k i) in
+      at-removed s r k f (subst (λ (q : Reading). Q q r) p h)
+  at-go s s′ r e h Malformed i f = clash (cc (turn-malformed t s i))
+
+  read-ind : (s : Reading) → Q s (readFrom t s)
+  unfolding readFrom
+  read-ind =
+      loop-ind _ (readTurn t) (read-falls t) malformed Q
+      (λ s r e. at-stop s r e (itemAt t (s .at)) refl)
+      (λ s s′ r e h. at-go s s′ r e h (itemAt t (s .at)) refl (item-forward t (s .at)))
+
+-- ---- the comma of a string that is whole stands at its start or behind, within the text
+
+abbrev After : List ℕ → ℕ → Read → Type 0
+After t i (whole s k) = (i ≤ k) × (k < length t)
+After t i malformed = Unit {0}
+
+after-weaken : (t : List ℕ) (i j : ℕ) → i < j → (r : Read) → After t j r → After t i r
+after-weaken t i j h (whole s k) a = omega arith
+after-weaken t i j h malformed a = tt
+
+end-within : (t : List ℕ) (i : ℕ) → itemAt t i ≡ End → i < length t
+end-within t i e =
+    below-or i (length t) (λ l. l)
+    (λ l. absurd (let z : _≡_ {A = ℕ} 0 1 = cc (item-past t i l) in (let y : ⊥ = omega arith in y)))
+
+from-after : (t : List ℕ) (s : Reading) → After t (s .at) (readFrom t s)
+from-after t =
+    read-ind t (λ (s : Reading) (r : Read). After t (s .at) r)
+    (λ s e. (le-refl (s .at), end-within t (s .at) e))
+    (λ s. tt)
+    (λ s r b k l h. after-weaken t (s .at) k l r h)
+    (λ s r k l h. after-weaken t (s .at) k l r h)
+
+pub read-after : (t : List ℕ) (i : ℕ) (s : List ℕ) (k : ℕ) → readAt t i ≡ whole s k → (i ≤ k) × (k < length t)
+read-after t i s k e = subst (After t i) e (from-after t (record { at = i; bytes = [] }))
+
+-- ---- no byte that a string stands for is 0
+
+each-more : (P : ℕ → Type 0) (xs : List ℕ) (x : ℕ) → Each P xs → P x → Each P (xs ++ (x ∷ []))
+each-more P [] x h p = (p, tt)
+each-more P (y ∷ ys) x h p = (h .0, each-more P ys x (h .1) p)
+
+stored-free : (b : ℕ) → stored b ≡ 0 → ⊥
+unfolding stored
+stored-free b =
+    if-both (λ (x : ℕ). x ≡ 0 → ⊥) (eqb b 0)
+    (λ _ e. let y : ⊥ = omega arith in y)
+    (λ h e. true-false (sym (eq-eqb b 0 e) ∙ h))
+
+abbrev Free : List ℕ → Type 0
+Free xs = Each (λ (b : ℕ). b ≡ 0 → ⊥) xs
+
+from-free : (t : List ℕ) (s : Reading) → Free (s .bytes) → Free (bytesOf (readFrom t s))
+unfolding bytesOf
+from-free t =
+    read-ind t (λ (s : Reading) (r : Read). Free (s .bytes) → Free (bytesOf r))
+    (λ s e h. h)
+    (λ s h. tt)
+    (λ s r b k l h f. h (each-more (λ (b : ℕ). b ≡ 0 → ⊥) (s .bytes) (stored b) f (stored-free b)))
+    (λ s r k l h f. h f)
+
+pub read-free : (t : List ℕ) (i : ℕ) → Each (λ (b : ℕ). b ≡ 0 → ⊥) (bytesOf (readAt t i))
+read-free t i = from-free t (record { at = i; bytes = [] }) tt
+
+-- ---- the bytes that were read are at most those of the whole string
+
+read-grows : (t : List ℕ) (s : Reading) → (readFrom t s ≡ malformed → ⊥) → length (s .bytes) ≤ length (bytesOf (readFrom t s))
+unfolding bytesOf
+read-grows t =
+    read-ind t (λ (s : Reading) (r : Read). (r ≡ malformed → ⊥) → length (s .bytes) ≤ length (bytesOf r))
+    (λ s e w. le-refl (length (s .bytes)))
+    (λ s w. absurd (w refl))
+    (λ s r b k l h w. let g = h w in let n = length-append (s .bytes) (stored b ∷ []) in omega arith)
+    (λ s r k l h w. h w)
+
+-- ---- counting: a string that starts at a place, read to i, of which n bytes are known
+
+abbrev pub Scanned : List ℕ → ℕ → ℕ → ℕ → Type 0
+Scanned t at i n = (done : List ℕ) × (length done ≡ n) × (readFrom t (record { at = i; bytes = done }) ≡ readAt t at)
+
+module _ (t : List ℕ) (at i n : ℕ) (s : Scanned t at i n) where
+  pub scanned-byte : (b k : ℕ) → itemAt t i ≡ Byte b k → Scanned t at k (n + 1)
+  scanned-byte b k e =
+      (s .0 ++ (stored b ∷ []), length-append (s .0) (stored b ∷ []) ∙ ap (λ (m : ℕ). m + 1) (s .1), sym (read-byte t (record { at = i; bytes = s .0 }) b k e) ∙ s .2)
+
+  pub scanned-removed : (k : ℕ) → itemAt t i ≡ Removed k → Scanned t at k n
+  scanned-removed k e = (s .0, s .1, sym (read-removed t (record { at = i; bytes = s .0 }) k e) ∙ s .2)
+
+  pub scanned-end : itemAt t i ≡ End → W.Whole n i ≡ contentOf (readAt t at)
+  unfolding contentOf
+  scanned-end e = ap (λ (m : ℕ). W.Whole m i) (sym (s .1)) ∙ ap contentOf (sym (read-end t (record { at = i; bytes = s .0 }) e) ∙ s .2)
+
+  pub scanned-malformed : itemAt t i ≡ Malformed → W.Malformed ≡ contentOf (readAt t at)
+  unfolding contentOf
+  scanned-malformed e = ap contentOf (sym (read-malformed t (record { at = i; bytes = s .0 }) e) ∙ s .2)
+
+-- ---- putting: a string that starts at from, read to i, whose bytes so far stand in b, which was b₀, from at to p
+
+pub record Filled (t : List ℕ) (from i : ℕ) (b₀ b : List ℕ) (at p : ℕ) : Type 0 where
+  pub done : List ℕ
+  pub same : readFrom t (record { at = i; bytes = done }) ≡ readAt t from
+  pub place : p ≡ at + length done
+  pub held : b ≡ putAt b₀ at done
+
+pub filled-start : (t : List ℕ) (from : ℕ) (b : List ℕ) (at : ℕ) → Filled t from from b b at at
+filled-start t from b at = record { done = []; same = refl; place = sym (add-zero at); held = sym (put-nil b at) }
+
+module _ {t : List ℕ} {from i : ℕ} {b₀ b : List ℕ} {at p : ℕ} (f : Filled t from i b₀ b at p)
+    (right : readAt t from ≡ malformed → ⊥) (room : at + length (bytesOf (readAt t from)) ≤ length b₀) where
+  fits : at + length (f .done) ≤ length b₀
+  fits =
+      let g = read-grows t (record { at = i; bytes = f .done }) (λ z. right (sym (f .same) ∙ z)) in
+      let e = ap (λ (r : Read). length (bytesOf r)) (f .same) in
+      omega arith
+
+  pub filled-length : length b ≡ length b₀
+  filled-length = ap (λ (x : List ℕ). length x) (f .held) ∙ length-put b₀ at (f .done) fits
+
+  pub filled-removed : (k : ℕ) → itemAt t i ≡ Removed k → Filled t from k b₀ b at p
+  filled-removed k e = record {
+    done = f .done;
+    same = sym (read-removed t (record { at = i; bytes = f .done }) k e) ∙ f .same;
+    place = f .place;
+    held = f .held;
+  }
+
+  pub filled-end : itemAt t i ≡ End → b ≡ putAt b₀ at (bytesOf (readAt t from))
+  unfolding bytesOf
+  filled-end e = f .held ∙ ap (putAt b₀ at) (ap bytesOf (sym (read-end t (record { at = i; bytes = f .done }) e) ∙ f .same))
+
+  pub filled-malformed : itemAt t i ≡ Malformed → ⊥
+  filled-malformed e = right (sym (f .same) ∙ read-malformed t (record { at = i; bytes = f .done }) e)
+
+  module _ (v k : ℕ) (e : itemAt t i ≡ Byte v k) where
+    next : readFrom t (record { at = k; bytes = f .done ++ (stored v ∷ []) }) ≡ readAt t from
+    next = sym (read-byte t (record { at = i; bytes = f .done }) v k e) ∙ f .same
+
+    pub filled-room : p < length b₀
+    filled-room =
+        let g = read-grows t (record { at = k; bytes = f .done ++ (stored v ∷ []) }) (λ z. right (sym next ∙ z)) in
+        let q = ap (λ (r : Read). length (bytesOf r)) next in
+        let n = length-append (f .done) (stored v ∷ []) in
+        let h = f .place in
+        omega arith
+
+    pub filled-byte : Filled t from k b₀ (set b p (stored v)) at (p + 1)
+    filled-byte = record {
+      done = f .done ++ (stored v ∷ []);
+      same = next;
+      place = let n = length-append (f .done) (stored v ∷ []) in let h = f .place in omega arith;
+      held = put-store b₀ b at p (stored v) (f .done) (f .done ++ (stored v ∷ [])) (f .held) (f .place) refl filled-room;
+    }

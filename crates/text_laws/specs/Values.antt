@@ -1,0 +1,183 @@
+-- The values that compiling's refusals give lie in the text.
+-- Assumes nothing.
+use mathlib.Core.Path.{_≡_, refl, sym, ap, _∙_, subst}
+use mathlib.Core.Bool.{Bool, true, false, not}
+use mathlib.Core.List.{List, [], _∷_}
+use Prim.Native.Nat.{ℕ, _+_, _-_, _≤_, _<_}
+use native.Mathlib.Omega.{arith}
+use lib.Dec.{leb}
+use lib.ListN.{length, getD, take, drop}
+use borrow.Author.Tests.{leb-true}
+use Rattle.base.specs.If.{if_then_else_}
+use Rattle.base.specs.Loop.{Turn, go, stop, loop-ind}
+use Rattle.caps.specs.declared.Edition.{Edition}
+use Rattle.entry.specs.Limits.{fileMost, givenNamesMost, contentMost}
+use Rattle.entry.specs.State.{present}
+use Rattle.entry.specs.Answer.{Answer, refused, gives, mapAnswer}
+use Rattle.entry.specs.Reading.{Entry}
+use Rattle.entry.specs.Writing.{encode}
+use Rattle.names.specs.declared.Found.{Found}
+use Rattle.names.specs.declared.Found.the-variants as N
+use Rattle.names.specs.Lookup.{lookingUp}
+use Rattle.text.specs.declared.Form.{Form}
+use Rattle.text.specs.declared.Form.the-variants as F
+use Rattle.text.specs.declared.Field.{Field}
+use Rattle.text.specs.declared.Field.the-variants as G
+use Rattle.text.specs.declared.Header.{Header}
+use Rattle.text.specs.declared.Header.the-variants as H
+use Rattle.text.specs.declared.Line.{Line}
+use Rattle.text.specs.declared.Line.the-variants.{End, Column, Indented}
+use Rattle.text.specs.Bytes.{textMost}
+use Rattle.text.specs.Strings.{readAt, bytesOf}
+use Rattle.text.specs.Lines.{lineAt, nextAt}
+use Rattle.text.specs.Fields.{fieldAt}
+use Rattle.text.specs.Heading.{namesTo, headerAt}
+use Rattle.text.specs.Describing.{Saying, nothing, booleanBy, numberBy, stringBy, sayingOf, isUse, namedSaying, Judging, judgingOf, judging, Described, fieldTurn, lineTurn, describedTurn, fieldsFrom, bare, headed, begun, describing}
+use Rattle.text.specs.Compiling.{fitting, fitted, compiling}
+use Rattle.text_laws.specs.LineLaws.{LineAfter, next-after}
+use Rattle.text_laws.specs.DescribingLaws.{falls, turn-is}
+
+-- ---- a field's refusal gives the field's first byte
+
+abbrev At : {A : Type 0} → ℕ → Answer A → Type 0
+At p (refused n v) = v ≡ p ∷ []
+At p (gives x) = Unit {0}
+
+map-at : {A B : Type 0} (g : A → B) (p : ℕ) (a : Answer A) → At p a → At p (mapAnswer g a)
+map-at g p (refused n v) h = h
+map-at g p (gives x) h = tt
+
+boolean-at : (p : ℕ) (f : Form) → At p (booleanBy p f)
+boolean-at p F.Boolean = tt
+boolean-at p F.Cancelled = tt
+boolean-at p (F.Number v) = refl
+boolean-at p F.LargeNumber = refl
+boolean-at p (F.String i n) = refl
+
+number-at : (p : ℕ) (f : Form) → At p (numberBy p f)
+number-at p F.Boolean = refl
+number-at p F.Cancelled = tt
+number-at p (F.Number v) = tt
+number-at p F.LargeNumber = refl
+number-at p (F.String i n) = refl
+
+string-at : (t : List ℕ) (p : ℕ) (f : Form) → At p (stringBy t p f)
+string-at t p F.Boolean = refl
+string-at t p F.Cancelled = tt
+string-at t p (F.Number v) = refl
+string-at t p F.LargeNumber = refl
+string-at t p (F.String i n) = by-test (leb n contentMost)
+  where
+    by-test : (b : Bool) → At p (if b then gives (present (bytesOf (readAt t i))) else refused 13 (p ∷ []))
+    by-test true = tt
+    by-test false = refl
+
+found-at : (t : List ℕ) (p : ℕ) (f : Form) (c : Found) → At p (sayingOf t p f c)
+unfolding sayingOf
+found-at t p f (N.Boolean q) = map-at _ p (booleanBy p f) (boolean-at p f)
+found-at t p f (N.Number q) = map-at _ p (numberBy p f) (number-at p f)
+found-at t p f (N.String q) = map-at _ p (stringBy t p f) (string-at t p f)
+found-at t p f N.Unknown = refl
+
+named-at : (e : Edition) (t : List ℕ) (p : ℕ) (name : List ℕ) (f : Form) → At p (namedSaying e t p name f)
+unfolding namedSaying
+named-at e t p name f = by-use (isUse name f)
+  where
+    by-use : (b : Bool) → At p (if b then refused 12 (p ∷ []) else sayingOf t p f (lookingUp e name))
+    by-use true = refl
+    by-use false = found-at t p f (lookingUp e name)
+
+judging-at : (e : Edition) (t : List ℕ) (p : ℕ) → At p (judging e t p)
+unfolding judging
+judging-at e t p = by-field (fieldAt t p)
+  where
+    by-dropped : (dropped : Bool) (name : List ℕ) (f : Form) → At p (if dropped then gives nothing else namedSaying e t p name f)
+    by-dropped true name f = tt
+    by-dropped false name f = named-at e t p name f
+
+    by-field : (f : Field) → At p (judgingOf e t p f)
+    by-field (G.Right dropped i k f next) = map-at _ p (if dropped then gives nothing else namedSaying e t p (take (k - i) (drop i t)) f) (by-dropped dropped _ f)
+    by-field G.Malformed = refl
+
+-- ---- a text's refusal
+
+abbrev Within : {A : Type 0} → ℕ → Answer A → Type 0
+Within m (refused n v) = getD v 0 0 ≤ m
+Within m (gives x) = Unit {0}
+
+fields-within : (e : Edition) (t : List ℕ) (d : Described) → Within (length t) (fieldsFrom e t d)
+unfolding fieldsFrom
+fields-within e t d =
+    loop-ind _ (describedTurn e t) (falls e t) (refused 0 []) (λ (d : Described) (r : Answer Entry). Within (length t) r)
+    (λ d r u. by-line d r (nextAt t (d .at)) refl (turn-is e t d (nextAt t (d .at)) refl ∙ u))
+    (λ d d′ r u h. h)
+    d
+  where
+    stop-is : {S R : Type 0} {r s : R} → _≡_ {A = Turn S R} (stop r) (stop s) → r ≡ s
+    stop-is u = cc
+
+    refused-within : (p : ℕ) (n : ℕ) (v : List ℕ) → p < length t → v ≡ p ∷ [] → Within {A = Entry} (length t) (refused n v)
+    refused-within p n v l q = let z : getD v 0 0 ≡ p = ap (λ (x : List ℕ). getD x 0 0) q in omega arith
+
+    by-answer : (x : Entry) (p : ℕ) (r : Answer Entry) → p < length t → (a : Answer Judging) → At p a → fieldTurn x a ≡ stop r → Within (length t) r
+    by-answer x p r l (refused n v) h u = subst (Within (length t)) (stop-is u) (refused-within p n v l h)
+    by-answer x p r l (gives j) h u = absurd (let z : _≡_ {A = ℕ} 0 1 = cc in (let y : ⊥ = omega arith in y))
+
+    by-line : (d : Described) (r : Answer Entry) (l : Line) → nextAt t (d .at) ≡ l → lineTurn e t (d .entry) l ≡ stop r → Within (length t) r
+    by-line d r End q u = subst (Within (length t)) (stop-is u) tt
+    by-line d r (Column p) q u =
+        let b = subst (LineAfter t (d .at)) q (next-after t (d .at)) in
+        subst (Within (length t)) (stop-is u) (refused-within p 10 (p ∷ []) (b .1) refl)
+    by-line d r (Indented p) q u =
+        let b = subst (LineAfter t (d .at)) q (next-after t (d .at)) in
+        by-answer (d .entry) p r (b .1) (judging e t p) (judging-at e t p) u
+
+describing-within : (e : Edition) (t : List ℕ) → Within (length t) (describing e t)
+unfolding describing
+describing-within e t = by-line (lineAt t 0)
+  where
+    none : Within {A = Entry} (length t) (refused 10 (0 ∷ []))
+    none = omega arith
+
+    by-header : (i : ℕ) (h : Header) → Within (length t) (headed e t i h)
+    by-header i (H.Right c) = fields-within e t (record { at = c + 1; entry = bare e (namesTo t i c) })
+    by-header i H.Malformed = none
+    by-header i H.LongAlias = none
+
+    by-line : (l : Line) → Within (length t) (begun e t l)
+    by-line End = none
+    by-line (Column i) = by-header i (headerAt t i)
+    by-line (Indented i) = none
+
+-- what compiling says is bounded: a value by the text's most bytes, a file's length by the file's
+abbrev pub Bounded : Answer ℕ → Type 0
+Bounded (refused n v) = getD v 0 0 ≤ textMost
+Bounded (gives n) = n ≤ fileMost
+
+pub compiling-bounded : (e : Edition) (t : List ℕ) (room : ℕ) → Bounded (mapAnswer length (compiling e t room))
+unfolding compiling fitting
+compiling-bounded e t room = by-length (leb (length t) textMost) refl
+  where
+    by-room : (x : Entry) → length (encode x) ≤ fileMost → (b : Bool)
+        → Bounded (mapAnswer length (if not b then refused 8 (length (encode x) ∷ []) else gives (encode x)))
+    by-room x l true = l
+    by-room x l false = omega arith
+
+    by-size : (x : Entry) (b : Bool) → leb (length (encode x)) fileMost ≡ b
+        → Bounded (mapAnswer length (if not b then refused 9 [] else if not (leb (length (encode x)) room) then refused 8 (length (encode x) ∷ []) else gives (encode x)))
+    by-size x true q = by-room x (leb-true _ _ q) (leb (length (encode x)) room)
+    by-size x false q = omega arith
+
+    by-total : (x : Entry) (b : Bool) → Bounded (mapAnswer length (if not b then refused 13 (0 ∷ [])
+        else if not (leb (length (encode x)) fileMost) then refused 9 []
+        else if not (leb (length (encode x)) room) then refused 8 (length (encode x) ∷ []) else gives (encode x)))
+    by-total x true = by-size x (leb (length (encode x)) fileMost) refl
+    by-total x false = omega arith
+
+    by-entry : length t ≤ textMost → (a : Answer Entry) → Within (length t) a → Bounded (mapAnswer length (fitted room a))
+    by-entry l (refused n v) h = omega arith
+    by-entry l (gives x) h = by-total x (leb (length (x .names)) givenNamesMost)
+
+    by-length : (b : Bool) → leb (length t) textMost ≡ b → Bounded (mapAnswer length (if not b then refused 1 [] else fitted room (describing e t)))
+    by-length true q = by-entry (leb-true _ _ q) (describing e t) (describing-within e t)
+    by-length false q = omega arith

@@ -1,0 +1,1 @@
+// Laws of source text's definitions. They are in specs/.

@@ -1,0 +1,3 @@
+pub mod Position
+pub mod Beside
+pub mod Taken
