@@ -159,7 +159,7 @@ fn put_front(out: &mut [u8], at: usize, minus: bool, zero: bool, missing: usize)
         return;
     }
     if zero {
-        put_sign(out, at, minus);
+        put_sign(out, at, minus); // the zeros stand after it
         put_fill(out, at + sign_length(minus), b'0', missing);
         return;
     }
