@@ -23,7 +23,7 @@
  *         of an expansion; bits 0 to 55 give the length of the file or output
  *     9   the file to be written is longer than 4,096 bytes
  *     10  the text is malformed; for 10 to 13 bits 0 to 55 give the first byte of the field, 0 for
- *         the header
+ *         the header, and its own for a second line that starts in column 1
  *     11  a field's name is unknown, or of another kind
  *     12  a field is use=
  *     13  an alias of the text is longer than 14 bytes, a number above 32,767 or of more than 99

@@ -225,7 +225,7 @@ def check_two_bytes():
 
 
 def check_short():
-    """Every sequence of up to five bytes of some, as a text and at some places in one."""
+    """Every sequence of up to four to six bytes of some, as a text and at some places in one."""
     for alphabet, length, before, after in (
             (b"a|, \n#\0", 6, b"", b""), (b"am, \n#.", 5, b"a|b,", b""),
             (b"m,\n\t\\^08=", 4, b"a|b,\n\tcr=", b","), (b"089xXaF#,", 4, b"a|b,\n\tlm#", b",")):

@@ -1,5 +1,5 @@
-/* The header in C and in C++: entries are written, opened, asked and merged, and strings expanded, by
- * its functions. */
+/* The header in C and in C++: text is compiled, entries are written, opened, asked and merged, and
+ * strings expanded, by its functions. */
 #include <assert.h>
 #include <stdio.h>
 #include <string.h>

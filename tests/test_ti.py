@@ -117,7 +117,12 @@ def check_failures():
     for status, printed, errors in runs:
         same((status, printed, errors == ""), (2, "", False), errors)
     same(files(), before, "files")
-    return len(runs)
+    with open("/dev/full", "wb") as full:
+        done = subprocess.run([TI, "compile", "full"], cwd=folder, input=act4.TEXT, stdout=full,
+                              stderr=subprocess.PIPE, check=False)
+    same((done.returncode, done.stderr == b""), (2, False), "standard output that fails")
+    same((folder / "full").read_bytes(), act4.dumped(), "standard output that fails")
+    return len(runs) + 1
 
 
 def check_generated():

@@ -1,5 +1,5 @@
--- Demand 3, whole, over compiling, writing and merging: a record of theorems for each of its sentences. `compiling`, `writing` and `merging`
--- are what the calls' contracts say the calls give; `opening` and `asking..` what those of opening and reading give.
+-- Demand 3, whole, over compiling, writing and merging: a theorem for each of its five sentences, with the sentence above it. `compiling`,
+-- `writing` and `merging` are what the calls' contracts say the calls give; `opening` and `asking..` what those of opening and reading give.
 -- Assumes nothing.
 use mathlib.Core.Path.{_≡_, sym, ap, _∙_, subst}
 use mathlib.Core.Bool.{true, false}
@@ -40,10 +40,10 @@ written-in e x f (compiler t room o w q) =
     same u = cc
 written-in e x f (merger a b room w q) = subst (λ (y : Entry). WrittenIn e y f) (sym q) (merged-holds e a b room f w)
 
--- ---- the first sentence
+-- ---- what one edition writes, every edition reads
 
 -- "Whatever file one edition writes, every edition opens it and reads the same names, and each capability that both know exactly as written:
--- absent, cancelled, or present with the same content. Each that only the reader knows is absent."
+-- absent, cancelled, or present with the same content."
 pub record Reads (e r : Edition) (x : Entry) (f : List ℕ) : Type 0 where
   pub opens : isGiven (opening r f) ≡ true
   pub names : mapAnswer (bytesOf f) (askingNames r f) ≡ gives (x .names)
@@ -51,40 +51,51 @@ pub record Reads (e r : Edition) (x : Entry) (f : List ℕ) : Type 0 where
   pub number : (p : Place) → knows (e .numbers) p ≡ true → knows (r .numbers) p ≡ true → askingNumber r f p ≡ gives (heldNumber x p)
   pub string : (p : Place) → knows (e .strings) p ≡ true → knows (r .strings) p ≡ true
       → mapAnswer (mapState (bytesOf f)) (askingString r f p) ≡ gives (heldString x p)
-  pub onlyReaderBoolean : (p : Place) → knows (e .booleans) p ≡ false → knows (r .booleans) p ≡ true → askingBoolean r f p ≡ gives absent
-  pub onlyReaderNumber : (p : Place) → knows (e .numbers) p ≡ false → knows (r .numbers) p ≡ true → askingNumber r f p ≡ gives absent
-  pub onlyReaderString : (p : Place) → knows (e .strings) p ≡ false → knows (r .strings) p ≡ true
-      → mapAnswer (mapState (bytesOf f)) (askingString r f p) ≡ gives absent
 
 pub every-edition-reads : (e : Edition) (x : Entry) (f : List ℕ) → WrittenBy e x f → (r : Edition) → okEdition r ≡ true → Reads e r x f
 every-edition-reads e x f w r o =
     let s : ReadsAsWritten r x f = reads-as-written e x f (written-in e x f w) r o in
-    let only = only-reader e x f (written-in e x f w) in
     record {
       opens = s .opens;
       names = s .names;
       boolean = λ p k l. s .booleans p l;
       number = λ p k l. s .numbers p l;
       string = λ p k l. s .strings p l;
-      onlyReaderBoolean = λ p k l. s .booleans p l ∙ ap gives (only p .0 k);
-      onlyReaderNumber = λ p k l. s .numbers p l ∙ ap gives (only p .1 .0 k);
-      onlyReaderString = λ p k l. s .strings p l ∙ ap gives (only p .1 .1 k);
     }
 
--- ---- the second sentence
+-- "Each that only the reader knows is absent."
+pub record OnlyReader (e r : Edition) (f : List ℕ) : Type 0 where
+  pub boolean : (p : Place) → knows (e .booleans) p ≡ false → knows (r .booleans) p ≡ true → askingBoolean r f p ≡ gives absent
+  pub number : (p : Place) → knows (e .numbers) p ≡ false → knows (r .numbers) p ≡ true → askingNumber r f p ≡ gives absent
+  pub string : (p : Place) → knows (e .strings) p ≡ false → knows (r .strings) p ≡ true
+      → mapAnswer (mapState (bytesOf f)) (askingString r f p) ≡ gives absent
+
+pub only-reader-absent : (e : Edition) (x : Entry) (f : List ℕ) → WrittenBy e x f → (r : Edition) → okEdition r ≡ true → OnlyReader e r f
+only-reader-absent e x f w r o =
+    let s : ReadsAsWritten r x f = reads-as-written e x f (written-in e x f w) r o in
+    let only = only-reader e x f (written-in e x f w) in
+    record {
+      boolean = λ p k l. s .booleans p l ∙ ap gives (only p .0 k);
+      number = λ p k l. s .numbers p l ∙ ap gives (only p .1 .0 k);
+      string = λ p k l. s .strings p l ∙ ap gives (only p .1 .1 k);
+    }
+
+-- ---- what a reader doesn't know, it doesn't see
 
 -- "Whatever two files are written in one edition under the same names, if they differ only in capabilities that a reader doesn't know, its answers
 -- (the counts from opening, each state and each content) are equal."
 pub unknown-unseen : (e : Edition) (x y : Entry) (f g : List ℕ) → WrittenBy e x f → WrittenBy e y g → (r : Edition) → SameBelow r x y → SameAnswers r f g
 unknown-unseen e x y f g v w r same = same-answers e x y f g (written-in e x f v) (written-in e y g w) r same
 
--- ---- the third and the fourth sentence
+-- ---- merging
 
 -- "And whatever two files are merged, if the merged file is written, a reader that knows no more in any list than the merging edition sees in it exactly
--- the names, states and contents that merging the originals in its own edition gives. Its own merge of them is then refused, if at all, only for room (8)."
-pub record SeesMerge (r : Edition) (a b f : List ℕ) : Type 0 where
-  pub sees : ReadsAsWritten r (merged r a b) f
-  pub ownMerge : (room : ℕ) → (numberOf (merging r a b room) ≡ 0) ⊎ (numberOf (merging r a b room) ≡ 8)
+-- the names, states and contents that merging the originals in its own edition gives."
+pub reader-sees-merge : (e : Edition) (a b : List ℕ) (room : ℕ) (f : List ℕ) → merging e a b room ≡ gives f → (r : Edition) → NoMore r e
+    → ReadsAsWritten r (merged r a b) f
+reader-sees-merge e a b room f w r k = merged-seen e r a b room f k w
 
-pub reader-sees-merge : (e : Edition) (a b : List ℕ) (room : ℕ) (f : List ℕ) → merging e a b room ≡ gives f → (r : Edition) → NoMore r e → SeesMerge r a b f
-reader-sees-merge e a b room f w r k = record { sees = merged-seen e r a b room f k w; ownMerge = λ own. own-merge e r a b room own f k w }
+-- "Its own merge of them is then refused, if at all, only for room (8)."
+pub own-merge-for-room : (e : Edition) (a b : List ℕ) (room : ℕ) (f : List ℕ) → merging e a b room ≡ gives f → (r : Edition) → NoMore r e → (own : ℕ)
+    → (numberOf (merging r a b own) ≡ 0) ⊎ (numberOf (merging r a b own) ≡ 8)
+own-merge-for-room e a b room f w r k own = own-merge e r a b room own f k w
