@@ -42,6 +42,11 @@
  * The caller lends all memory and the calls keep none of it. Every pointer is aligned for its type
  * and not null, also where its length is 0; its length counts elements, all of which can be read;
  * what a call may write overlaps no other argument. There is no other condition on any argument.
+ *
+ * No call uses the heap or keeps anything from one call to the next. What each says of its stack is
+ * counted in the disassembly of the library on x86-64 (bench/stack.py): frames, return addresses and
+ * arguments along the longest chain of calls, whatever the input. What memcpy and memset of the C
+ * library use comes on top, and once what the dynamic linker uses to find them.
  */
 #ifndef TERMINFO_C_H
 #define TERMINFO_C_H
@@ -92,7 +97,9 @@ static inline size_t terminfo_steps(uint64_t answer) { return (size_t)(answer >>
  *     tables[7], [8], [9]       how many boolean, number and string slots lie beyond the edition.
  *
  * Success gives 0. Refusals, the first that applies: 3 (edition), 1 (below 12 bytes or above
- * 4,096), 2, 3 (header), 1 (size), 4, 5, 6, 7. */
+ * 4,096), 2, 3 (header), 1 (size), 4, 5, 6, 7.
+ *
+ * Uses at most 176 bytes of stack. */
 uint64_t terminfo_open(const uint8_t *file, size_t file_length, size_t booleans, size_t numbers,
                        size_t strings, uint64_t tables[10]);
 
@@ -102,7 +109,9 @@ uint64_t terminfo_open(const uint8_t *file, size_t file_length, size_t booleans,
  * booleans, numbers, strings  the edition of the reader.
  *
  * Success gives the start of the names times 2^24 plus their length without the closing NUL
- * (terminfo_start, terminfo_length). Refusal 17: terminfo_open refuses the file. */
+ * (terminfo_start, terminfo_length). Refusal 17: terminfo_open refuses the file.
+ *
+ * Uses at most 144 bytes of stack. */
 uint64_t terminfo_names(const uint8_t *file, size_t file_length, size_t booleans, size_t numbers,
                         size_t strings);
 
@@ -114,7 +123,9 @@ uint64_t terminfo_names(const uint8_t *file, size_t file_length, size_t booleans
  *
  * Success gives the kind of the state in bits 48 to 55 (terminfo_kind); a place that the edition
  * knows and the file does not have is absent. Refusal 17: the place is beyond the edition, or
- * terminfo_open refuses the file. */
+ * terminfo_open refuses the file.
+ *
+ * Uses at most 176 bytes of stack. */
 uint64_t terminfo_boolean(const uint8_t *file, size_t file_length, size_t booleans, size_t numbers,
                           size_t strings, size_t place);
 
@@ -124,7 +135,9 @@ uint64_t terminfo_boolean(const uint8_t *file, size_t file_length, size_t boolea
  *
  * Success gives the kind of the state in bits 48 to 55 (terminfo_kind) and, where it is present,
  * the number's value, 0 to 32,767, in the bits below (terminfo_value). Refusal 17: as for
- * terminfo_boolean. */
+ * terminfo_boolean.
+ *
+ * Uses at most 176 bytes of stack. */
 uint64_t terminfo_number(const uint8_t *file, size_t file_length, size_t booleans, size_t numbers,
                          size_t strings, size_t place);
 
@@ -134,7 +147,9 @@ uint64_t terminfo_number(const uint8_t *file, size_t file_length, size_t boolean
  *
  * Success gives the kind of the state in bits 48 to 55 (terminfo_kind) and, where it is present, in
  * the bits below the start of the string in the file times 2^24 plus its length without the NUL
- * (terminfo_start, terminfo_length). Refusal 17: as for terminfo_boolean. */
+ * (terminfo_start, terminfo_length). Refusal 17: as for terminfo_boolean.
+ *
+ * Uses at most 176 bytes of stack. */
 uint64_t terminfo_string(const uint8_t *file, size_t file_length, size_t booleans, size_t numbers,
                          size_t strings, size_t place);
 
@@ -148,7 +163,9 @@ uint64_t terminfo_string(const uint8_t *file, size_t file_length, size_t boolean
  *                             terminfo_string returns for places[i], its refusal 17 included; for
  *                             any other kinds[i] it is refusal 17.
  *
- * Success gives 0. Refusal 17: terminfo_open refuses the file. */
+ * Success gives 0. Refusal 17: terminfo_open refuses the file.
+ *
+ * Uses at most 256 bytes of stack. */
 uint64_t terminfo_ask(const uint8_t *file, size_t file_length, size_t booleans, size_t numbers,
                       size_t strings, const uint8_t kinds[8], const size_t places[8],
                       uint64_t answers[8]);
@@ -171,7 +188,9 @@ uint64_t terminfo_ask(const uint8_t *file, size_t file_length, size_t booleans, 
  *
  * Success gives the file's length (terminfo_value). Refusals, the first that applies: 3 (edition
  * too large, or any of the six arrays of states shorter than the edition counts), 4, 7, 13, 9,
- * 8 (gives the file's length: terminfo_value). */
+ * 8 (gives the file's length: terminfo_value).
+ *
+ * Uses at most 784 bytes of stack. */
 uint64_t terminfo_write(size_t booleans, size_t numbers, size_t strings,
                         const uint8_t *names, size_t names_length,
                         const uint8_t *boolean_kinds, size_t boolean_kinds_length,
@@ -210,7 +229,9 @@ uint64_t terminfo_write(size_t booleans, size_t numbers, size_t strings,
  * Success gives the file's length (terminfo_value). Refusals, the first that applies: 1; then of the
  * header and the fields in turn 10, 12, 11, 13, with the place of the first byte of the field, 0
  * for the header (terminfo_value); 13 for all names together, with 0; 9; 8 (gives the file's
- * length: terminfo_value). */
+ * length: terminfo_value).
+ *
+ * Uses at most 10,784 bytes of stack. */
 uint64_t terminfo_compile(const uint8_t *text, size_t text_length, uint8_t *buffer,
                           size_t buffer_length);
 
@@ -230,7 +251,9 @@ uint64_t terminfo_compile(const uint8_t *text, size_t text_length, uint8_t *buff
  *
  * Success gives the merged file's length (terminfo_value). Refusals, the first that applies: 3
  * (edition), 1 to 7 as terminfo_open gives them for the first file, 1 to 7 as it gives them for the
- * second file, 9, 8 (gives the merged file's length: terminfo_value). */
+ * second file, 9, 8 (gives the merged file's length: terminfo_value).
+ *
+ * Uses at most 10,032 bytes of stack. */
 uint64_t terminfo_merge(const uint8_t *first, size_t first_length, const uint8_t *second,
                         size_t second_length, size_t booleans, size_t numbers, size_t strings,
                         uint8_t *buffer, size_t buffer_length);
@@ -241,7 +264,9 @@ uint64_t terminfo_merge(const uint8_t *first, size_t first_length, const uint8_t
  * place  the place in the list of that kind, counted from 0.
  *
  * Success gives the bytes of the name in bits 0 to 55, the first byte lowest, and zero bytes after
- * the last one. Refusal 17: the place is beyond the list, or there is no such kind. */
+ * the last one. Refusal 17: the place is beyond the list, or there is no such kind.
+ *
+ * Uses at most 1,352 bytes of stack. */
 uint64_t terminfo_capability(uint8_t kind, size_t place);
 
 /* Expands a parameterized string and writes the output into the buffer from a place on.
@@ -276,7 +301,9 @@ uint64_t terminfo_capability(uint8_t kind, size_t place);
  * (terminfo_steps, terminfo_length). Refusals, the first that applies: 17 (at is above
  * buffer_length), 1 (above 1,000 bytes), 14 (gives the place of the first wrong item, or the
  * string's length for an open conditional), 15 and 16 (give the place of the item at which the
- * expansion stops), 8 (gives the output's length: terminfo_value). */
+ * expansion stops), 8 (gives the output's length: terminfo_value).
+ *
+ * Uses at most 1,448 bytes of stack. */
 uint64_t terminfo_expand(const uint8_t *string, size_t string_length, const int32_t arguments[9],
                          int32_t lasting[26], uint8_t *buffer, size_t buffer_length, size_t at);
 

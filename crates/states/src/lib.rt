@@ -53,7 +53,7 @@ pub fn string(file: &[u8], edition: Edition, place: Place) -> StringState
 }
 
 // A part of a file that lies in it.
-fn part(file: &[u8], p: Part) -> &[u8]
+pub fn part(file: &[u8], p: Part) -> &[u8]
     requires { ⌜ p .start + p .length ≤ length (now file) ⌝ }
     ensures { λ r. ⌜ IsPart (file .entry) r p ⌝ }
 {
@@ -63,7 +63,7 @@ fn part(file: &[u8], p: Part) -> &[u8]
 }
 
 // The empty part at a file's start.
-const NO_PART: Part = Part {
+pub const NO_PART: Part = Part {
     start: 0,
     length: 0,
 };

@@ -1,0 +1,12 @@
+-- `terminfo::slices::same_edition` meets its contract.
+use mathlib.Core.Path.{refl}
+use Rattle.terminfo.specs.Entries.{sameEdition}
+use Rattle.terminfo.proofs.slices.same_edition.Statement.{statement}
+use Rattle.terminfo.proofs.slices.same_edition.Tie as tie
+
+returns : tie.Need-returns
+unfolding sameEdition
+returns c = refl
+
+pub same-edition-spec : {M : Type 1} → statement M
+same-edition-spec = tie.close (tie.spec returns)

@@ -1,0 +1,16 @@
+-- What expanding with lent lasting variables promises (document 01: Expansion).
+-- Assumes nothing.
+use mathlib.Core.Path.{_≡_}
+use mathlib.Core.List.{List}
+use Prim.Native.Nat.{ℕ}
+use lib.IntN.{ℤ}
+use Rattle.entry.specs.Answer.{Answer, mapAnswer}
+use Rattle.expansion.specs.declared.Expansion.{Expansion}
+use Rattle.expansion.specs.Expanding.{Expanding, counted, saysExpansion, lastingAfter, outputAfter}
+
+-- "The lasting variables A to Z are lent by the caller and changed in place": a call that comes to a, with variables v before and v′
+-- after, over a buffer with bytes b before and b′ after, answers r; a refusal leaves both
+pub record LentAs (a : Answer Expanding) (v v′ : List ℤ) (b : List ℕ) (at : ℕ) (b′ : List ℕ) (r : Expansion) : Type 0 where
+  pub answer : saysExpansion r ≡ mapAnswer counted a
+  pub lasting : v′ ≡ lastingAfter v a
+  pub output : b′ ≡ outputAfter b at a

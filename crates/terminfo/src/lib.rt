@@ -1,0 +1,132 @@
+// The calls for a Rattle program: an entry that keeps hold of its file, and expansion with lasting variables that are lent (document 01:
+// Compiled entry; Expansion). Each call over such a struct passes its slice and numbers on to a call of `slices`. Proved: each answers
+// every value as the definition that its contract names. Assumed: nothing.
+ghost use mathlib.Core.Path.{_≡_};
+ghost use lib.ListN.{length};
+ghost use Rattle.entry.specs.Asking.{askingString, partGiven, namesGiven};
+ghost use Rattle.entry.specs.Says.{saysNames, saysBoolean, saysNumber, saysString};
+ghost use Rattle.states.specs.Held.{IsPart};
+ghost use Rattle.expansion.specs.Expanding.{expanding};
+ghost use Rattle.terminfo.specs.Entries.{entryOf, entryNames, entryBoolean, entryNumber, entryString, entryBeyond, saysBeyond};
+ghost use Rattle.terminfo.specs.Lent.{LentAs};
+use caps::Edition;
+use caps::Place;
+use entry::Beyond;
+use entry::BooleanState;
+use entry::Names;
+use entry::NumberState;
+use entry::StringState;
+use entry::Tables;
+use expansion::Expansion;
+use expansion::Lasting;
+
+mod slices;
+
+// What opening gave: the edition, the tables, the slots beyond the edition. On a refusal all are 0 but the refusal's number, which is 0
+// otherwise.
+pub struct EntryNumbers {
+    edition: Edition,
+    tables: Tables,
+    beyond: Beyond,
+    refusal: usize,
+}
+
+// An entry: the caller's bytes and what opening gave for them.
+pub struct Entry<'a> {
+    file: &'a [u8],
+    numbers: EntryNumbers,
+}
+
+// How many slots lie beyond the edition.
+pub enum BeyondEdition {
+    Slots(Beyond),
+    // 17: opening would not give the entry
+    Refused,
+}
+
+// Opens a file in an edition.
+pub fn open<'a>(file: &'a [u8], edition: Edition) -> Entry<'a>
+    ensures { λ r. ⌜ r ≡ entryOf (file .entry) edition ⌝ }
+{
+    let numbers = slices::numbers_in(file, edition);
+    Entry { file, numbers }
+}
+
+// The number under which opening refused the file; 0 where it did not.
+pub fn refusal<'a>(e: Entry<'a>) -> usize
+    ensures { λ r. ⌜ r ≡ e .entry .numbers .refusal ⌝ }
+{
+    e.numbers.refusal
+}
+
+// The names, without their NUL.
+pub fn names<'a>(e: Entry<'a>) -> Names
+    ensures { λ r. ⌜ saysNames r ≡ entryNames (now (e .entry .file)) (e .entry .numbers) ⌝ }
+{
+    slices::names_in(e.file, e.numbers)
+}
+
+// The names as that part of the caller's bytes; the empty part at the file's start where they are refused.
+pub fn names_part<'a>(e: Entry<'a>) -> &'a [u8]
+    ensures { λ r. ⌜ IsPart (e .entry .file) r (namesGiven (entryNames (now (e .entry .file)) (e .entry .numbers))) ⌝ }
+{
+    slices::names_part_in(e.file, e.numbers)
+}
+
+// The state of the boolean at a place.
+pub fn boolean<'a>(e: Entry<'a>, place: Place) -> BooleanState
+    ensures { λ r. ⌜ saysBoolean r ≡ entryBoolean (now (e .entry .file)) (e .entry .numbers) place ⌝ }
+{
+    slices::boolean_in(e.file, e.numbers, place)
+}
+
+// The state of the number at a place.
+pub fn number<'a>(e: Entry<'a>, place: Place) -> NumberState
+    ensures { λ r. ⌜ saysNumber r ≡ entryNumber (now (e .entry .file)) (e .entry .numbers) place ⌝ }
+{
+    slices::number_in(e.file, e.numbers, place)
+}
+
+// The state of the string at a place: where its content stands in the file.
+pub fn string<'a>(e: Entry<'a>, place: Place) -> StringState
+    ensures { λ r. ⌜ saysString r ≡ entryString (now (e .entry .file)) (e .entry .numbers) place ⌝ }
+{
+    slices::string_in(e.file, e.numbers, place)
+}
+
+// The content of the string at a place as that part of the caller's bytes; the empty part at the file's start where no content is given.
+pub fn string_part<'a>(e: Entry<'a>, place: Place) -> &'a [u8]
+    ensures { λ r. ⌜ IsPart (e .entry .file) r (partGiven (entryString (now (e .entry .file)) (e .entry .numbers) place)) ⌝ }
+{
+    slices::string_part_in(e.file, e.numbers, place)
+}
+
+// How many slots of the file lie beyond the edition, in each list.
+pub fn beyond<'a>(e: Entry<'a>) -> BeyondEdition
+    ensures { λ r. ⌜ saysBeyond r ≡ entryBeyond (now (e .entry .file)) (e .entry .numbers) ⌝ }
+{
+    slices::beyond_in(e.file, e.numbers)
+}
+
+// Opens a file and gives the content of the string at a place. Its parameters are plain: a caller needs no walk.
+pub fn open_string<'a>(file: &'a [u8], edition: Edition, place: Place) -> &'a [u8]
+    ensures { λ r. ⌜ IsPart (file .entry) r (partGiven (askingString edition (now (file .entry)) place)) ⌝ }
+{
+    string_part(open(file, edition), place)
+}
+
+// Expands a string into the free part of the buffer from place at on. The lasting variables are lent and change in place; on a refusal they
+// and the buffer are as they were.
+pub fn expand(
+    string: &[u8],
+    arguments: [i32; 9],
+    lasting: &mut Lasting,
+    out: &mut [u8],
+    at: usize,
+) -> Expansion
+    ensures { λ r. ⌜ LentAs (expanding (now (string .entry)) arguments (now (lasting .entry) .values) (length (now (out .entry))) at) (now (lasting .entry) .values) (now (lasting .exit) .values) (now (out .entry)) at (now (out .exit)) r ⌝ }
+{
+    let e = expand::expand(string, arguments, *lasting, out, at);
+    *lasting = e.lasting;
+    e.answer
+}

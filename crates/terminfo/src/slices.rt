@@ -1,0 +1,193 @@
+// The work of the calls over an entry, on its slice and its numbers.
+ghost use mathlib.Core.Path.{_≡_};
+ghost use Rattle.entry.specs.Asking.{opening, partGiven, namesGiven};
+ghost use Rattle.entry.specs.Says.{fileNumber, saysOpened, saysNames, saysBoolean, saysNumber, saysString};
+ghost use Rattle.states.specs.Held.{IsPart};
+ghost use Rattle.terminfo.specs.Entries.{numbersOf, opened, sameEdition, sameTables, sameBeyond, same, entryNames, entryBoolean, entryNumber, entryString, entryBeyond, saysBeyond};
+use crate::BeyondEdition;
+use crate::EntryNumbers;
+use caps::Edition;
+use caps::Place;
+use entry::Beyond;
+use entry::BooleanState;
+use entry::FileRefusal;
+use entry::Names;
+use entry::NumberState;
+use entry::Opened;
+use entry::StringState;
+use entry::Tables;
+
+const NO_EDITION: Edition = Edition {
+    booleans: 0,
+    numbers: 0,
+    strings: 0,
+};
+
+const NO_TABLES: Tables = Tables {
+    booleans: 0,
+    numbers: 0,
+    strings: 0,
+    booleans_at: 0,
+    numbers_at: 0,
+    strings_at: 0,
+    table_at: 0,
+};
+
+const NO_BEYOND: Beyond = Beyond {
+    booleans: 0,
+    numbers: 0,
+    strings: 0,
+};
+
+fn refusal_number(why: FileRefusal) -> usize
+    ensures { λ r. ⌜ r ≡ fileNumber why ⌝ }
+{
+    match why {
+        FileRefusal::Length => 1,
+        FileRefusal::Magic => 2,
+        FileRefusal::Counts => 3,
+        FileRefusal::Names => 4,
+        FileRefusal::Boolean => 5,
+        FileRefusal::Number => 6,
+        FileRefusal::Slot => 7,
+    }
+}
+
+// What opening in an edition answered, as numbers.
+fn numbers_of(edition: Edition, o: Opened) -> EntryNumbers
+    ensures { λ r. ⌜ r ≡ numbersOf edition (saysOpened o) ⌝ }
+{
+    match o {
+        Opened::Entry(tables, beyond) => EntryNumbers {
+            edition,
+            tables,
+            beyond,
+            refusal: 0,
+        },
+        Opened::Refused(why) => EntryNumbers {
+            edition: NO_EDITION,
+            tables: NO_TABLES,
+            beyond: NO_BEYOND,
+            refusal: refusal_number(why),
+        },
+    }
+}
+
+pub fn numbers_in(file: &[u8], edition: Edition) -> EntryNumbers
+    ensures { λ r. ⌜ r ≡ opened edition (now (file .entry)) ⌝ }
+{
+    let o = read::open(file, edition);
+    numbers_of(edition, o)
+}
+
+fn same_edition(a: Edition, b: Edition) -> bool
+    ensures { λ r. ⌜ r ≡ sameEdition a b ⌝ }
+{
+    (a.booleans == b.booleans) & ((a.numbers == b.numbers) & (a.strings == b.strings))
+}
+
+fn same_tables(a: Tables, b: Tables) -> bool
+    ensures { λ r. ⌜ r ≡ sameTables a b ⌝ }
+{
+    (a.booleans == b.booleans)
+        & ((a.numbers == b.numbers)
+            & ((a.strings == b.strings)
+                & ((a.booleans_at == b.booleans_at)
+                    & ((a.numbers_at == b.numbers_at)
+                        & ((a.strings_at == b.strings_at) & (a.table_at == b.table_at))))))
+}
+
+fn same_beyond(a: Beyond, b: Beyond) -> bool
+    ensures { λ r. ⌜ r ≡ sameBeyond a b ⌝ }
+{
+    (a.booleans == b.booleans) & ((a.numbers == b.numbers) & (a.strings == b.strings))
+}
+
+fn same_numbers(a: EntryNumbers, b: EntryNumbers) -> bool
+    ensures { λ r. ⌜ r ≡ same a b ⌝ }
+{
+    same_edition(a.edition, b.edition)
+        & (same_tables(a.tables, b.tables)
+            & (same_beyond(a.beyond, b.beyond) & (a.refusal == b.refusal)))
+}
+
+pub fn names_in(file: &[u8], n: EntryNumbers) -> Names
+    ensures { λ r. ⌜ saysNames r ≡ entryNames (now (file .entry)) n ⌝ }
+{
+    let e = n.edition;
+    let o = read::open(file, e);
+    if !same_numbers(n, numbers_of(e, o)) {
+        return Names::Refused;
+    }
+    match o {
+        Opened::Entry(t, _) => Names::At(states::opened::names_opened(file, e, t)),
+        Opened::Refused(_) => Names::Refused,
+    }
+}
+
+pub fn boolean_in(file: &[u8], n: EntryNumbers, place: Place) -> BooleanState
+    ensures { λ r. ⌜ saysBoolean r ≡ entryBoolean (now (file .entry)) n place ⌝ }
+{
+    let e = n.edition;
+    let o = read::open(file, e);
+    if !same_numbers(n, numbers_of(e, o)) {
+        return BooleanState::Refused;
+    }
+    states::opened::boolean_if_opened(file, e, o, place)
+}
+
+pub fn number_in(file: &[u8], n: EntryNumbers, place: Place) -> NumberState
+    ensures { λ r. ⌜ saysNumber r ≡ entryNumber (now (file .entry)) n place ⌝ }
+{
+    let e = n.edition;
+    let o = read::open(file, e);
+    if !same_numbers(n, numbers_of(e, o)) {
+        return NumberState::Refused;
+    }
+    states::opened::number_if_opened(file, e, o, place)
+}
+
+pub fn string_in(file: &[u8], n: EntryNumbers, place: Place) -> StringState
+    ensures { λ r. ⌜ saysString r ≡ entryString (now (file .entry)) n place ⌝ }
+{
+    let e = n.edition;
+    let o = read::open(file, e);
+    if !same_numbers(n, numbers_of(e, o)) {
+        return StringState::Refused;
+    }
+    states::opened::string_if_opened(file, e, o, place)
+}
+
+pub fn beyond_in(file: &[u8], n: EntryNumbers) -> BeyondEdition
+    ensures { λ r. ⌜ saysBeyond r ≡ entryBeyond (now (file .entry)) n ⌝ }
+{
+    let e = n.edition;
+    let o = read::open(file, e);
+    if !same_numbers(n, numbers_of(e, o)) {
+        return BeyondEdition::Refused;
+    }
+    match o {
+        Opened::Entry(_, b) => BeyondEdition::Slots(b),
+        Opened::Refused(_) => BeyondEdition::Refused,
+    }
+}
+
+pub fn names_part_in(file: &[u8], n: EntryNumbers) -> &[u8]
+    ensures { λ r. ⌜ IsPart (file .entry) r (namesGiven (entryNames (now (file .entry)) n)) ⌝ }
+{
+    match names_in(file, n) {
+        Names::At(p) => states::part(file, p),
+        Names::Refused => states::part(file, states::NO_PART),
+    }
+}
+
+pub fn string_part_in(file: &[u8], n: EntryNumbers, place: Place) -> &[u8]
+    ensures { λ r. ⌜ IsPart (file .entry) r (partGiven (entryString (now (file .entry)) n place)) ⌝ }
+{
+    match string_in(file, n, place) {
+        StringState::Present(p) => states::part(file, p),
+        StringState::Absent => states::part(file, states::NO_PART),
+        StringState::Cancelled => states::part(file, states::NO_PART),
+        StringState::Refused => states::part(file, states::NO_PART),
+    }
+}
