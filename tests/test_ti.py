@@ -1,6 +1,6 @@
-"""Runs ti on texts: exit statuses, what it prints, the file that it writes and the files it leaves.
+"""Runs every command of ti: exit statuses, what it prints, the file that it writes, what it leaves.
 
-Answers are held to document 01's examples and, on generated texts, to the model.
+Answers are held to document 01's examples and, on generated input, to the models.
 """
 
 import os
@@ -12,17 +12,21 @@ from collections import Counter
 from pathlib import Path
 
 import act4
+import expand_model
+import model
 import text_model
-from model import LARGEST_FILE
+from model import FIRST_EDITION, LARGEST_FILE, Refusal
 from test_compile import pick_text
-from test_random import rng
+from test_expand import pick_string, pick_values
+from test_random import make_pair, pick, pick_file, rng
 from test_vectors import same
 
 TI = str(Path(__file__).resolve().parent.parent / "ti")
 SEED = 21
 GENERATED = 400
+FILES, MERGES, STRINGS = 300, 200, 300
 OLD = b"the file that was there before"
-REFUSED = re.compile(r"ti: refused (\d+): .*")
+REFUSED = re.compile(r"ti: (.*): refused (\d+): .*\n")
 PLACE = re.compile(r".*, at byte (\d+) \(counted from 0\), line (\d+), column (\d+) "
                    r"\(counted from 1\)\n")
 
@@ -57,7 +61,9 @@ def compiled(name, text):
         same(after, {**before, name: file}, "files")
         return 0, None, file
     same((status, printed, after), (1, "", before), text)
-    number = int(REFUSED.match(errors)[1])
+    name, number = REFUSED.match(errors).groups()
+    same(name, "standard input", errors)
+    number = int(number)
     place = PLACE.fullmatch(errors)
     same(place is not None, number in (10, 11, 12, 13), errors)
     if place is None:
@@ -117,12 +123,229 @@ def check_failures():
     for status, printed, errors in runs:
         same((status, printed, errors == ""), (2, "", False), errors)
     same(files(), before, "files")
-    with open("/dev/full", "wb") as full:
-        done = subprocess.run([TI, "compile", "full"], cwd=folder, input=act4.TEXT, stdout=full,
+    return len(runs)
+
+
+def raw(*words, given=b""):
+    """Status, the bytes of standard output, and standard error of a run."""
+    done = subprocess.run([TI, *words], cwd=folder, capture_output=True, check=False, input=given)
+    return done.returncode, done.stdout, done.stderr.decode("utf-8")
+
+
+def put(name, file):
+    (folder / name).write_bytes(file)
+    return name
+
+
+def refused(found, name, number, tail=""):
+    """A run that refuses the file of this name, and says where."""
+    status, printed, errors = found
+    same((status, printed), (1, b""), errors)
+    said = REFUSED.fullmatch(errors)
+    same(said and said.groups(), (name, str(number)), errors)
+    same(errors.endswith(tail + "\n"), True, errors)
+
+
+def judged(file):
+    """The number of the file's refusal, or 0."""
+    try:
+        model.open_entry(file, FIRST_EDITION)
+        return 0
+    except Refusal as refusal:
+        return refusal.number
+
+
+def shown(content, least):
+    return "".join(chr(byte) if least <= byte <= 126 and byte != 92 else f"\\{byte:03o}"
+                   for byte in content)
+
+
+def shown_state(name, kind, state):
+    state_kind, value = state
+    if state_kind == model.CANCELLED:
+        return f"{name}@"
+    if kind == model.BOOLEAN:
+        return name
+    return f"{name}#{value}" if kind == model.NUMBER else f"{name}={shown(value, 33)}"
+
+
+def shown_file(file):
+    """What ti show prints of an accepted file."""
+    entry = model.open_entry(file, FIRST_EDITION)
+    start, length = entry.names()
+    lines = ["names: " + shown(file[start:start + length], 32)]
+    for kind, names in enumerate(model.LISTS):
+        for place, name in enumerate(names):
+            state = model.content_state(entry, kind, place)
+            if state[0] != model.ABSENT:
+                lines.append(shown_state(name, kind, state))
+    lines.append("beyond the edition: {} booleans, {} numbers, {} strings".format(*entry.beyond()))
+    return "\n".join(lines) + "\n"
+
+
+def check_file(file, given=None):
+    """ti check and ti show on a file, by its name or as standard input."""
+    name = put("file", file) if given is None else given
+    number = judged(file)
+    checked = raw("check", name, given=file)
+    showed = raw("show", name, given=file)
+    if number:
+        said = "standard input" if name == "-" else name
+        refused(checked, said, number)
+        refused(showed, said, number)
+    else:
+        same(checked, (0, f"accepted: {len(file)} bytes\n".encode(), ""), file)
+        same(showed, (0, shown_file(file).encode(), ""), file)
+    return number
+
+
+def check_files():
+    """The lengths around the limits, by name and as standard input, then generated files."""
+    ends = [b"", b"\x1a", bytes(11), bytes(12), act4.dumped(), act4.dumped() + b"\0",
+            bytes(4096), bytes(4097), bytes(100_000)]
+    for file in ends:
+        check_file(file)
+        check_file(file, "-")
+    numbers = Counter(check_file(bytes(pick_file()[0])) for _ in range(FILES))
+    missing = set(range(8)) - set(numbers)
+    if missing:
+        sys.exit(f"check and show: never seen: {missing}")
+    return 4 * len(ends) + 2 * FILES
+
+
+def check_merge(first, second):
+    """ti merge on two files; the old file stays where it is refused."""
+    put("first", first)
+    put("second", second)
+    put("merged", OLD)
+    found = raw("merge", "first", "second", "merged")
+    for name, file in (("first", first), ("second", second)):
+        if judged(file):
+            refused(found, name, judged(file))
+            same((folder / "merged").read_bytes(), OLD, "merged")
+            return judged(file)
+    try:
+        merged = model.merge(first, second, FIRST_EDITION, LARGEST_FILE)
+    except Refusal as refusal:
+        refused(found, "merged", refusal.number)
+        same((folder / "merged").read_bytes(), OLD, "merged")
+        return refusal.number
+    same(found, (0, f"merged: {len(merged)} bytes\n".encode(), ""), "merge")
+    same((folder / "merged").read_bytes(), merged, "merged")
+    return 0
+
+
+def check_merges():
+    act = act4.dumped()
+    for pair in ((act, act), (act, b""), (b"", act), (act, bytes(4097))):
+        check_merge(*pair)
+    same(raw("merge", "-", "first", "merged", given=act)[0], 0, "merge from standard input")
+    numbers = Counter(check_merge(*map(bytes, make_pair()[0])) for _ in range(MERGES))
+    if not {0, 9} <= set(numbers):
+        sys.exit(f"merge: never seen 0 or 9: {numbers}")
+    left = [path for path in files() if "/.ti-" in "/" + path]
+    same(left, [], "temporary files")
+    return MERGES + 5
+
+
+def with_string(string):
+    """A file whose cup is this string."""
+    return model.written(b"a|b", ([(0, None)] * 21, [(0, None)] * 8, [
+        (1, string) if place == 10 else (0, None) for place in range(138)]), LARGEST_FILE)
+
+
+def check_expansion(string, values):
+    """ti expand and ti expand -v on a string with some values."""
+    put("file", with_string(string))
+    words = ["file", "cup", *map(str, values)]
+    found, verbose = raw("expand", *words), raw("expand", "-v", *words)
+    try:
+        nine = list(values) + [0] * (9 - len(values))
+        made = expand_model.expand(string, nine, [0] * 26, 1 << 20, 0)
+    except Refusal as refusal:
+        tail = f", at byte {refusal.value} of the string (counted from 0)"
+        for run in found, verbose:
+            refused(run, "file", refusal.number, tail if refusal.number in (14, 15, 16) else "")
+        return refusal.number
+    same(found, (0, made.output, ""), string)
+    same(verbose, (0, f"{shown(made.output, 33)}\n{made.steps} steps\n".encode(), ""), string)
+    return 0
+
+
+def check_expansions():
+    """Examples, states that can't be expanded, wrong words, then generated strings."""
+    put("act", act4.dumped())
+    same(raw("expand", "act", "cup", "5", "70"), (0, b"\x14\x05F", ""), "cup of act4")
+    same(raw("expand", "-v", "-", "cup", "5", "70", given=act4.dumped()),
+         (0, b"\\024\\005F\n5 steps\n", ""), "cup of act4")
+    examples = [(b"\x1b=%p1%' '%+%c%p2%' '%+%c", (3, 12)), (b"%p1%p2%-%d", (7, 5)),
+                (b"%p1%03d", (-5,)), (b"%?%p2%|%t;4%;", ()), (b"\x1b[%i%p1%d;%p2%dH", (0, 0)),
+                (21 * b"%p1", ()), (20 * b"%p1", ()), (b"%", ()), (1000 * b"x", ()),
+                (1001 * b"x", ()),
+                (b"%p9%d", tuple(range(1, 10))), (b"%p1%d%p2%d", (-2**31, 2**31 - 1)), (b"", ())]
+    for string, values in examples:
+        check_expansion(string, values)
+    _, _, changed = text_model.compile(b"a|b,\n cup@, ri=,\n", LARGEST_FILE)
+    put("changed", changed)
+    same(raw("expand", "changed", "cup"), (1, b"", "ti: changed: cup is cancelled\n"), "cancelled")
+    same(raw("expand", "changed", "el"), (1, b"", "ti: changed: el is absent\n"), "absent")
+    same(raw("expand", "changed", "ri"), (0, b"", ""), "an empty string")
+    for name in ("zz", "am", "cols", "", "cup ", 5000 * "c"):
+        found = raw("expand", "changed", name)
+        if len(name) < 4096:
+            refused(found, "changed", 11)
+        else:
+            same(found[:2], (2, b""), "a long name")
+    for word in ("x", "", "-", "+1", "1x", " 1", "2147483648", "-2147483649", 20 * "9", 70 * "1"):
+        same(raw("expand", "act", "cup", word)[:2], (2, b""), word)
+    numbers = Counter()
+    for _ in range(STRINGS):
+        string = pick_string().replace(b"\0", b"0")
+        numbers[check_expansion(string, pick_values(pick(0, 1, 2, 9)))] += 1
+    missing = {0, 14, 15, 16} - set(numbers)
+    if missing:
+        sys.exit(f"expand: never seen: {missing}")
+    return 2 * len(examples) + 20 + 2 * STRINGS
+
+
+def check_bad_files():
+    """Files that can't be read and output that can't be written: status 2 and a message."""
+    put("act", act4.dumped())
+    (folder / "dir").mkdir(exist_ok=True)
+    before = files()
+    runs = []
+    for name in ("missing", "dir", "dir/", "", 256 * "n", 2100 * "n/", "act/x"):
+        runs += [raw("check", name), raw("show", name), raw("expand", name, "cup"),
+                 raw("merge", name, "act", "out"), raw("merge", "act", name, "out")]
+    runs += [raw("merge", "act", "act", out)
+             for out in ("dir", "dir/", "missing/out", "/dev/null", "", 256 * "n")]
+    runs += [raw("check"), raw("show"), raw("check", "act", "act"), raw("merge", "act", "act"),
+             raw("expand", "act"), raw("expand", "-v", "act"),
+             raw("expand", "act", "cup", *"1234567890"),
+             raw("help", "act"), raw("help", "show", "show"), raw("list")]
+    for words in (["check", "act"], ["show", "act"], ["expand", "act", "cup"],
+                  ["expand", "-v", "act", "cup"]):
+        with open("/dev/full", "wb") as full:
+            done = subprocess.run([TI, *words], cwd=folder, stdout=full,
+                                  stderr=subprocess.PIPE, check=False)
+        runs.append((done.returncode, b"", done.stderr.decode()))
+        done = subprocess.run(["sh", "-c", 'exec "$@" >&-', "sh", TI, *words], cwd=folder,
                               stderr=subprocess.PIPE, check=False)
-    same((done.returncode, done.stderr == b""), (2, False), "standard output that fails")
-    same((folder / "full").read_bytes(), act4.dumped(), "standard output that fails")
-    return len(runs) + 1
+        runs.append((done.returncode, b"", done.stderr.decode()))
+    for status, printed, errors in runs:
+        same((status, printed, errors == ""), (2, b"", False), errors)
+    same(files(), before, "files")
+    return len(runs)
+
+
+def check_help():
+    status, printed, errors = raw("help")
+    same((status, errors), (0, ""), "help")
+    words = [line.split()[1] for line in printed.decode().splitlines() if line.startswith("ti ")]
+    for word in words:
+        found = raw("help", word)
+        same((found[0], found[2], found[1].startswith(f"ti {word}".encode())), (0, "", True), word)
+    return len(words) + 1
 
 
 def check_generated():
@@ -142,6 +365,8 @@ def check_generated():
 if __name__ == "__main__":
     with tempfile.TemporaryDirectory() as name:
         folder = Path(name)
-        counts = [check() for check in (check_examples, check_names, check_failures,
-                                        check_generated)]
-    print(f"{sum(counts)} runs of ti as stated, {GENERATED} of them on generated texts")
+        rng.seed(SEED)
+        counts = [check() for check in (
+            check_help, check_examples, check_names, check_failures, check_generated, check_files,
+            check_merges, check_expansions, check_bad_files)]
+    print(f"{sum(counts)} runs of ti as stated, on document 01's examples and generated input")

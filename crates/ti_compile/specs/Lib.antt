@@ -1,3 +1,2 @@
 pub mod Position
-pub mod Beside
 pub mod Taken

@@ -1,0 +1,162 @@
+-- Laws that the proofs cite: counts, the name beside a path, numbers that aren't negative, bytes as they are shown.
+-- Assumes nothing.
+use mathlib.Core.Path.{_≡_, refl, sym, ap, subst, _∙_}
+use mathlib.Core.Bool.{Bool, true, false}
+use mathlib.Core.List.{List, [], _∷_, _++_, append-assoc, append-nil}
+use Prim.Native.Nat.{ℕ, zero, suc, _+_, _-_, _*_, _≤_, _<_, _^_}
+use native.Mathlib.Nat.{le-refl, pow-suc}
+use native.Mathlib.Omega.{arith}
+use native.Mathlib.Numerals.{add-one}
+use lib.Dec.{T, eqb, ltb}
+use lib.ListN.{length, getD, set, take, drop, length-append}
+use lib.Seq.{length-take-le, take-at, take-suc, take-length}
+use lib.IntN.{ℤ, pos, negsuc, natAbs}
+use lib.Signed.{ltZ, nonNeg}
+use mir.Syntax.{w32, w64}
+use mir.Val.{Fits, SFits}
+use mir.Facts.{fits-natAbs}
+use borrow.Author.Tests.{eq-eqb, ne-eqb}
+use Rattle.io.specs.Counts.{Counts}
+use Rattle.io.specs.Digits.{Fewest}
+use Rattle.base.specs.If.{if_then_else_, below-or}
+use Rattle.base.specs.Overwrite.{putAt, length-put, put-nil, put-set, put-front, put-run}
+use Rattle.names.specs.Names.{ascii}
+use Rattle.ti_common.specs.Beside.{folderIn, beside}
+use Rattle.ti_common.specs.Shown.{isPlain, octal, shownByte, shown}
+
+-- ---- counts
+
+pub counted : (n : ℕ) (xs : List ℕ) → n ≤ length xs → Counts n xs
+counted n xs h = (h, sym (length-take-le n xs h))
+
+-- ten to the 20th or more
+powers : (j : ℕ) → 100000000000000000000 ≤ 10 ^ (j + 20)
+powers zero = le-refl 100000000000000000000
+powers (suc j) =
+    let h = powers j in
+    let e : suc j + 20 ≡ suc (j + 20) = omega arith in
+    rw (e, pow-suc 10 (j + 20)) (omega arith)
+
+-- a 64-bit number has at most 20 digits
+digits-most : (n k : ℕ) → n < 2 ^ 64 → Fewest 10 1 n k → k ≤ 20
+digits-most n k h f =
+    below-or k 21 (λ l. omega arith)
+    (λ g.
+    let e : k - 1 ≡ (k - 21) + 20 = omega arith in
+    let p : 10 ^ (k - 1) ≤ n = f .2 (omega arith) in
+    let q : 10 ^ ((k - 21) + 20) ≤ n = rw e at p in
+    let r = powers (k - 21) in
+    omega arith)
+
+-- there is room for a path, a number and four bytes
+pub room-enough : (path n k : ℕ) (digits : List ℕ) → path ≤ 4096 → n < 2 ^ 64 → Counts k digits → Fewest 10 1 n k → path + length (take k digits) + 4 ≤ 4120
+room-enough path n k digits h l c f = let m = digits-most n k l f in omega arith
+
+-- ---- the folder of a path
+
+-- end is the folder's length in the first i bytes
+abbrev pub Folder : List ℕ → ℕ → ℕ → Type 0
+Folder p i end = (end ≡ folderIn p i) × (end ≤ i)
+
+pub folder-start : (p : List ℕ) → Folder p 0 0
+unfolding folderIn
+folder-start p = (refl, omega arith)
+
+pub folder-slash : (p : List ℕ) (i : ℕ) → getD p i 0 ≡ 47 → Folder p (i + 1) (i + 1)
+unfolding folderIn
+folder-slash p i e =
+    let n : i + 1 ≡ suc i = omega arith in
+    rw (n, eq-eqb (getD p i 0) 47 e) (refl, omega arith)
+
+pub folder-other : (p : List ℕ) (i end : ℕ) → Folder p i end → (getD p i 0 ≡ 47 → ⊥) → Folder p (i + 1) end
+unfolding folderIn
+folder-other p i end f e =
+    let n : i + 1 ≡ suc i = omega arith in
+    rw (n, ne-eqb (getD p i 0) 47 e) (f .0, omega arith)
+
+-- ---- the name beside a path
+
+pub name-made : (path number b b₁ b₂ b₃ : List ℕ) (end : ℕ) → end ≡ folderIn path (length path) → Counts end path → length path + length number + 4 ≤ length b
+    → b₁ ≡ putAt b 0 (take end path) → b₂ ≡ putAt b₁ end (ascii ".ti-") → b₃ ≡ putAt b₂ (end + 4) number
+    → (take (end + 4 + length number) b₃ ≡ beside path number) × Counts (end + 4 + length number) b₃
+unfolding beside ascii
+name-made path number b b₁ b₂ b₃ end e k h e₁ e₂ e₃ =
+    let f : List ℕ = take end path in
+    let g : List ℕ = f ++ ascii ".ti-" in
+    let x : List ℕ = g ++ number in
+    let n : length g ≡ end + 4 = length-append f (ascii ".ti-") ∙ omega arith in
+    let m : length x ≡ end + 4 + length number = length-append g number ∙ ap (λ (j : ℕ). j + length number) n in
+    let p₂ : b₂ ≡ putAt b 0 g = e₂ ∙ put-run b b₁ 0 end f (ascii ".ti-") g e₁ (omega arith) refl (omega arith) in
+    let p₃ : b₃ ≡ putAt b 0 x = e₃ ∙ put-run b b₂ 0 (end + 4) g number x p₂ (omega arith) refl (omega arith) in
+    let q : b₃ ≡ x ++ drop (length x) b = p₃ ∙ put-front b x in
+    let l : length b₃ ≡ length b = ap length p₃ ∙ length-put b 0 x (omega arith) in
+    (ap (take (end + 4 + length number)) q ∙ take-at x (drop (length x) b) (end + 4 + length number) m ∙ append-assoc f (ascii ".ti-") number ∙ ap (λ (j : ℕ). take j path ++ (ascii ".ti-" ++ number)) e, counted (end + 4 + length number) b₃ (omega arith))
+
+-- ---- numbers
+
+-- a 32-bit value that isn't negative is a 64-bit number
+pub not-negative : (z : ℤ) → SFits w32 z → ltZ z (pos 0) ≡ false → T (nonNeg z) × Fits w64 (natAbs z)
+not-negative (pos n) h t = (tt, fits-natAbs tt h)
+not-negative (negsuc n) h t = absurd (subst T t tt)
+
+-- ---- bytes as they are shown
+
+-- b is b₀ with the first i bytes of s as they are shown at its start, which are n bytes
+abbrev pub Shows : (least : ℕ) (s b₀ b : List ℕ) (i n : ℕ) → Type 0
+Shows least s b₀ b i n = (b ≡ putAt b₀ 0 (shown least (take i s))) × (n ≡ length (shown least (take i s))) × (n ≤ 4 * i)
+
+most-by : (c : ℕ) (t : Bool) → length (if t then c ∷ [] else octal c) ≤ 4
+unfolding octal
+most-by c true = omega arith
+most-by c false = omega arith
+
+pub shown-most : (least c : ℕ) → length (shownByte least c) ≤ 4
+unfolding shownByte
+shown-most least c = most-by c (isPlain least c)
+
+pub put-plain : (b : List ℕ) (at least c : ℕ) → at < length b → isPlain least c ≡ true
+    → (set b at c ≡ putAt b at (shownByte least c)) × (at + 1 ≡ at + length (shownByte least c))
+unfolding shownByte
+put-plain b at least c h e = rw e (put-set b at c h, refl)
+
+pub put-other : (b b′ : List ℕ) (at least c : ℕ) → isPlain least c ≡ false → b′ ≡ putAt b at (octal c)
+    → (b′ ≡ putAt b at (shownByte least c)) × (at + 4 ≡ at + length (shownByte least c))
+unfolding shownByte octal
+put-other b b′ at least c e h = rw e (h, refl)
+
+shown-append : (least : ℕ) (s t : List ℕ) → shown least (s ++ t) ≡ shown least s ++ shown least t
+unfolding shown
+shown-append least [] t = refl
+shown-append least (c ∷ s) t = ap (λ (x : List ℕ). shownByte least c ++ x) (shown-append least s t) ∙ sym (append-assoc (shownByte least c) (shown least s) (shown least t))
+
+shown-one : (least c : ℕ) → shown least (c ∷ []) ≡ shownByte least c
+unfolding shown
+shown-one least c = append-nil (shownByte least c)
+
+shown-next : (least : ℕ) (s : List ℕ) (i : ℕ) → i < length s → shown least (take (i + 1) s) ≡ shown least (take i s) ++ shownByte least (getD s i 0)
+shown-next least s i h =
+    let m : take (i + 1) s ≡ take i s ++ (getD s i 0 ∷ []) = ap (λ (k : ℕ). take k s) (add-one i) ∙ take-suc s i 0 h in
+    ap (shown least) m ∙ shown-append least (take i s) (getD s i 0 ∷ []) ∙ ap (λ (x : List ℕ). shown least (take i s) ++ x) (shown-one least (getD s i 0))
+
+pub shows-start : (least : ℕ) (s b : List ℕ) → Shows least s b b 0 0
+unfolding shown
+shows-start least s b = (sym (put-nil b 0), refl, omega arith)
+
+pub shows-next : (least : ℕ) (s b₀ b b′ : List ℕ) (i n n′ : ℕ) → 4 * length s ≤ length b₀ → i < length s → Shows least s b₀ b i n
+    → b′ ≡ putAt b n (shownByte least (getD s i 0)) → n′ ≡ n + length (shownByte least (getD s i 0)) → Shows least s b₀ b′ (i + 1) n′
+shows-next least s b₀ b b′ i n n′ h l w e k =
+    let c : ℕ = getD s i 0 in
+    let x : List ℕ = shown least (take i s) in
+    let m : length (shownByte least c) ≤ 4 = shown-most least c in
+    let q : shown least (take (i + 1) s) ≡ x ++ shownByte least c = shown-next least s i l in
+    let p : length (shown least (take (i + 1) s)) ≡ length x + length (shownByte least c) = ap length q ∙ length-append x (shownByte least c) in
+    (e ∙ put-run b₀ b 0 n x (shownByte least c) (shown least (take (i + 1) s)) (w .0) (omega arith) q (omega arith), omega arith, omega arith)
+
+pub shows-end : (least : ℕ) (s b₀ b : List ℕ) (n : ℕ) → 4 * length s ≤ length b₀ → Shows least s b₀ b (length s) n → (take n b ≡ shown least s) × Counts n b
+shows-end least s b₀ b n h w =
+    let x : List ℕ = shown least s in
+    let t : shown least (take (length s) s) ≡ x = ap (shown least) (take-length s) in
+    let k : n ≡ length x = w .1 ∙ ap length t in
+    let e : b ≡ putAt b₀ 0 x = w .0 ∙ ap (putAt b₀ 0) t in
+    let l : length b ≡ length b₀ = ap length e ∙ length-put b₀ 0 x (omega arith) in
+    (ap (take n) (e ∙ put-front b₀ x) ∙ take-at x (drop (length x) b₀) n (sym k), counted n b (omega arith))

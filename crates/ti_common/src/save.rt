@@ -1,0 +1,99 @@
+// A file comes whole: it is written beside its place and then renamed.
+ghost use mathlib.Core.Path.{_≡_};
+ghost use Prim.Native.Nat.{_+_, _≤_};
+ghost use lib.ListN.{length, take};
+ghost use Rattle.io.specs.Counts.{Counts};
+ghost use Rattle.ti_common.specs.Beside.{pathRoom, folderIn, beside};
+use crate::Status;
+use crate::fail;
+
+// The most bytes of a path.
+const PATH_MOST: usize = 4096;
+
+// The most bytes of a path, of `.ti-` and of a number.
+const NAME_ROOM: usize = 4120;
+
+// The length of the path up to its last slash, with it.
+fn folder(path: &[u8]) -> usize
+    ensures { λ r. ⌜ r ≡ folderIn (now (path .entry)) (length (now (path .entry))) ⌝ }
+    ensures { λ r. ⌜ Counts r (now (path .entry)) ⌝ }
+{
+    let mut i = 0;
+    let mut end = 0;
+    while i < path.len() {
+        if path[i] == b'/' {
+            end = i + 1;
+        }
+        i += 1;
+    }
+    end
+}
+
+// Puts the name of a temporary file in the path's folder at the start of name, and answers its length.
+fn name_beside(path: &[u8], number: &[u8], name: &mut [u8]) -> usize
+    requires { ⌜ length (now path) + length (now number) + 4 ≤ length (now name) ⌝ }
+    ensures { λ r. ⌜ take r (now (name .exit)) ≡ beside (now (path .entry)) (now (number .entry)) ⌝ }
+    ensures { λ r. ⌜ Counts r (now (name .exit)) ⌝ }
+{
+    let end = folder(path);
+    put::put_bytes(name, 0, &path[..end]);
+    put::put_bytes(name, end, b".ti-");
+    put::put_bytes(name, end + 4, number);
+    end + 4 + number.len()
+}
+
+// Writes all of a file, to the disk, and closes it.
+fn write_whole(fd: i32, file: &[u8]) -> bool {
+    let is_written = io::write_all(fd, file) && libc::fsync(fd) == 0;
+    let is_closed = libc::close(fd) == 0;
+    is_written && is_closed
+}
+
+// Writes the file under a name of its own and renames it, or says what failed and leaves an old file as it was.
+fn replace(path: &[u8], name: &[u8], file: &[u8]) -> bool {
+    let fd = os::create(name);
+    if fd < 0 {
+        fail(name);
+        return false;
+    }
+    if !write_whole(fd, file) {
+        fail(name);
+        os::unlink(name);
+        return false;
+    }
+    if os::rename(name, path) != 0 {
+        fail(path);
+        os::unlink(name);
+        return false;
+    }
+    true
+}
+
+// The process's number.
+fn process() -> u64 {
+    let number = libc::getpid();
+    if number < 0 { 0 } else { number as u64 }
+}
+
+// Saves the file under the path, whole or not at all.
+fn save(path: &[u8], file: &[u8]) -> bool
+    requires { ⌜ length (now path) ≤ pathRoom ⌝ }
+{
+    let mut digits = [0u8; 20];
+    let k = io::decimal(process(), &mut digits);
+    let mut name = [0u8; NAME_ROOM];
+    let n = name_beside(path, &digits[..k], &mut name);
+    replace(path, &name[..n], file)
+}
+
+// Saves the file under the path and says what was done, with the file's size; or says what failed.
+pub fn save_saying(path: &[u8], file: &[u8], what: &[u8]) -> Status {
+    if PATH_MOST < path.len() {
+        crate::complain(b"ti: the path is too long\n");
+        return Status::Failed;
+    }
+    if save(path, file) {
+        return crate::say_size(what, file);
+    }
+    Status::Failed
+}

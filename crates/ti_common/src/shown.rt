@@ -1,0 +1,99 @@
+// Bytes as people read them.
+ghost use mathlib.Core.Path.{_≡_};
+ghost use Prim.Native.Nat.{_+_, _*_, _<_, _≤_};
+ghost use lib.ListN.{length, take};
+ghost use Rattle.base.specs.Overwrite.{putAt};
+ghost use Rattle.io.specs.Counts.{Counts};
+ghost use Rattle.ti_common.specs.Shown.{isPlain, octal, shownByte, shown};
+use crate::say;
+
+// The first byte of those that stand for themselves: in contents, and in names, which hold spaces.
+pub const CONTENT_LEAST: u8 = 33;
+
+pub const NAMES_LEAST: u8 = 32;
+
+// How many bytes are shown at once.
+const PIECE: usize = 256;
+
+// Whether a byte stands for itself.
+fn is_plain(least: u8, c: u8) -> bool
+    ensures { λ r. ⌜ r ≡ isPlain least c ⌝ }
+{
+    if c < least {
+        return false;
+    }
+    if 126 < c {
+        return false;
+    }
+    c != b'\\'
+}
+
+// Puts a backslash and three octal digits.
+fn put_octal(out: &mut [u8], at: usize, c: u8)
+    requires { ⌜ at + 4 ≤ length (now out) ⌝ }
+    ensures { λ _. ⌜ now (out .exit) ≡ putAt (now (out .entry)) at (octal c) ⌝ }
+{
+    let digits = [b'\\', 48 + c / 64, 48 + c / 8 % 8, 48 + c % 8];
+    put::put_bytes(out, at, &digits);
+}
+
+// Puts a byte as it is shown, and answers the place behind it.
+fn put_shown(out: &mut [u8], at: usize, least: u8, c: u8) -> usize
+    requires { ⌜ at + 4 ≤ length (now out) ⌝ }
+    ensures { λ r. ⌜ (now (out .exit) ≡ putAt (now (out .entry)) at (shownByte least c)) × (r ≡ at + length (shownByte least c)) ⌝ }
+{
+    if is_plain(least, c) {
+        out[at] = c;
+        return at + 1;
+    }
+    put_octal(out, at, c);
+    at + 4
+}
+
+// Puts bytes as they are shown at the start of out, and answers how many there are.
+pub fn show(bytes: &[u8], least: u8, out: &mut [u8]) -> usize
+    requires { ⌜ 4 * length (now bytes) ≤ length (now out) ⌝ }
+    ensures { λ r. ⌜ (take r (now (out .exit)) ≡ shown least (now (bytes .entry))) × Counts r (now (out .exit)) ⌝ }
+{
+    let mut n = 0;
+    let mut i = 0;
+    while i < bytes.len() {
+        n = put_shown(out, n, least, bytes[i]);
+        i += 1;
+    }
+    n
+}
+
+// Writes a piece to standard output, as it is shown.
+fn say_piece(bytes: &[u8], least: u8) -> bool
+    requires { ⌜ length (now bytes) ≤ 256 ⌝ }
+{
+    let mut out = [0u8; 4 * PIECE];
+    let n = show(bytes, least, &mut out);
+    say(&out[..n])
+}
+
+// The end of the piece that starts at a place.
+fn piece_end(bytes: &[u8], at: usize) -> usize
+    requires { ⌜ at < length (now bytes) ⌝ }
+    ensures { λ r. ⌜ (at < r) × (r ≤ length (now (bytes .entry))) × (r ≤ at + 256) ⌝ }
+{
+    let rest = bytes.len() - at;
+    if rest < PIECE {
+        return bytes.len();
+    }
+    at + PIECE
+}
+
+// Writes bytes to standard output, as they are shown.
+pub fn say_shown(bytes: &[u8], least: u8) -> bool {
+    let mut at = 0;
+    while at < bytes.len() {
+        let end = piece_end(bytes, at);
+        if !say_piece(&bytes[at..end], least) {
+            return false;
+        }
+        at = end;
+    }
+    true
+}
