@@ -1,6 +1,6 @@
 -- Entries that hold their file: which numbers opening gives them, and what asking them gives (document 01: Compiled entry).
 -- Assumes nothing.
-use mathlib.Core.Bool.{Bool, true, _&&_}
+use mathlib.Core.Bool.{Bool, true, _&&_, _||_}
 use mathlib.Core.List.{List, []}
 use Prim.Native.Nat.{ℕ}
 use lib.Dec.{eqb}
@@ -57,6 +57,14 @@ unfoldable pub same : EntryNumbers → EntryNumbers → Bool
 same a b = sameEdition (a .edition) (b .edition) && (sameTables (a .tables) (b .tables) && (sameBeyond (a .beyond) (b .beyond) && eqb (a .refusal) (b .refusal)))
 
 -- ---- asking an entry of file f and numbers n
+
+-- whether opening gives these numbers for f, in some edition: in their own, or refused where the edition was too large (3)
+unfoldable pub fromOpening : List ℕ → EntryNumbers → Bool
+fromOpening f n = same n (opened (n .edition) f) || same n (numbersOf (n .edition) (refused 3 []))
+
+-- the number under which opening refused, 0 where it did not; 17, "entry not from opening"
+abbrev pub entryRefusal : List ℕ → EntryNumbers → ℕ
+entryRefusal f n = if fromOpening f n then n .refusal else 17
 
 -- "If callers can make an entry without opening, one that opening wouldn't give for its bytes is answered 17 too"
 unfoldable pub asked : {A : Type 0} → List ℕ → EntryNumbers → Answer A → Answer A

@@ -7,8 +7,8 @@ ghost use Rattle.entry.specs.Asking.{askingString, partGiven, namesGiven};
 ghost use Rattle.entry.specs.Says.{saysNames, saysBoolean, saysNumber, saysString};
 ghost use Rattle.states.specs.Held.{IsPart};
 ghost use Rattle.expansion.specs.Expanding.{expanding};
-ghost use Rattle.terminfo.specs.Entries.{entryOf, entryNames, entryBoolean, entryNumber, entryString, entryBeyond, saysBeyond};
-ghost use Rattle.terminfo.specs.Lent.{LentAs};
+ghost use Rattle.terminfo.specs.Entries.{entryOf, entryRefusal, entryNames, entryBoolean, entryNumber, entryString, entryBeyond, saysBeyond};
+ghost use Rattle.terminfo.specs.Lent.{LentAs, zeroLasting, expandingAt, WrittenAs};
 use caps::Edition;
 use caps::Place;
 use entry::Beyond;
@@ -52,11 +52,11 @@ pub fn open<'a>(file: &'a [u8], edition: Edition) -> Entry<'a>
     Entry { file, numbers }
 }
 
-// The number under which opening refused the file; 0 where it did not.
+// The number under which opening refused the file; 0 where it did not; 17 for an entry that opening would not give.
 pub fn refusal<'a>(e: Entry<'a>) -> usize
-    ensures { λ r. ⌜ r ≡ e .entry .numbers .refusal ⌝ }
+    ensures { λ r. ⌜ r ≡ entryRefusal (now (e .entry .file)) (e .entry .numbers) ⌝ }
 {
-    e.numbers.refusal
+    slices::refusal_in(e.file, e.numbers)
 }
 
 // The names, without their NUL.
@@ -66,7 +66,7 @@ pub fn names<'a>(e: Entry<'a>) -> Names
     slices::names_in(e.file, e.numbers)
 }
 
-// The names as that part of the caller's bytes; the empty part at the file's start where they are refused.
+// The names as that part of the caller's bytes; the empty part at the file's start where they are refused (17). Names are never empty.
 pub fn names_part<'a>(e: Entry<'a>) -> &'a [u8]
     ensures { λ r. ⌜ IsPart (e .entry .file) r (namesGiven (entryNames (now (e .entry .file)) (e .entry .numbers))) ⌝ }
 {
@@ -95,6 +95,7 @@ pub fn string<'a>(e: Entry<'a>, place: Place) -> StringState
 }
 
 // The content of the string at a place as that part of the caller's bytes; the empty part at the file's start where no content is given.
+// An empty part does not tell a present empty string from an absent or cancelled one or from 17: `string` does.
 pub fn string_part<'a>(e: Entry<'a>, place: Place) -> &'a [u8]
     ensures { λ r. ⌜ IsPart (e .entry .file) r (partGiven (entryString (now (e .entry .file)) (e .entry .numbers) place)) ⌝ }
 {
@@ -109,6 +110,7 @@ pub fn beyond<'a>(e: Entry<'a>) -> BeyondEdition
 }
 
 // Opens a file and gives the content of the string at a place. Its parameters are plain: a caller needs no walk.
+// An empty part tells as little as that of `string_part`: `states::string` tells the state.
 pub fn open_string<'a>(file: &'a [u8], edition: Edition, place: Place) -> &'a [u8]
     ensures { λ r. ⌜ IsPart (file .entry) r (partGiven (askingString edition (now (file .entry)) place)) ⌝ }
 {
@@ -129,4 +131,29 @@ pub fn expand(
     let e = expand::expand(string, arguments, *lasting, out, at);
     *lasting = e.lasting;
     e.answer
+}
+
+// The variables A to Z, all 0.
+pub fn zero_lasting() -> Lasting
+    ensures { λ r. ⌜ r .values ≡ zeroLasting ⌝ }
+{
+    Lasting { values: [0; 26] }
+}
+
+// Opens a file and expands the string at a place, with lasting variables that are 0 at first and are let go. Its parameters are plain: a caller
+// needs no walk. Where no content is given, no bytes are expanded: `states::string` tells the state.
+pub fn open_expand(
+    file: &[u8],
+    edition: Edition,
+    place: Place,
+    arguments: [i32; 9],
+    out: &mut [u8],
+    at: usize,
+) -> Expansion
+    ensures { λ r. ⌜ WrittenAs (expandingAt edition (now (file .entry)) place arguments (length (now (out .entry))) at) (now (out .entry)) at (now (out .exit)) r ⌝ }
+{
+    let entry = open(file, edition);
+    let string = string_part(entry, place);
+    let mut lasting = zero_lasting();
+    expand(string, arguments, &mut lasting, out, at)
 }

@@ -3,7 +3,7 @@ ghost use mathlib.Core.Path.{_≡_};
 ghost use Rattle.entry.specs.Asking.{opening, partGiven, namesGiven};
 ghost use Rattle.entry.specs.Says.{fileNumber, saysOpened, saysNames, saysBoolean, saysNumber, saysString};
 ghost use Rattle.states.specs.Held.{IsPart};
-ghost use Rattle.terminfo.specs.Entries.{numbersOf, opened, sameEdition, sameTables, sameBeyond, same, entryNames, entryBoolean, entryNumber, entryString, entryBeyond, saysBeyond};
+ghost use Rattle.terminfo.specs.Entries.{numbersOf, opened, sameEdition, sameTables, sameBeyond, same, entryRefusal, entryNames, entryBoolean, entryNumber, entryString, entryBeyond, saysBeyond};
 use crate::BeyondEdition;
 use crate::EntryNumbers;
 use caps::Edition;
@@ -37,6 +37,13 @@ const NO_BEYOND: Beyond = Beyond {
     booleans: 0,
     numbers: 0,
     strings: 0,
+};
+
+const EDITION_REFUSED: EntryNumbers = EntryNumbers {
+    edition: NO_EDITION,
+    tables: NO_TABLES,
+    beyond: NO_BEYOND,
+    refusal: 3,
 };
 
 fn refusal_number(why: FileRefusal) -> usize
@@ -109,6 +116,19 @@ fn same_numbers(a: EntryNumbers, b: EntryNumbers) -> bool
     same_edition(a.edition, b.edition)
         & (same_tables(a.tables, b.tables)
             & (same_beyond(a.beyond, b.beyond) & (a.refusal == b.refusal)))
+}
+
+pub fn refusal_in(file: &[u8], n: EntryNumbers) -> usize
+    ensures { λ r. ⌜ r ≡ entryRefusal (now (file .entry)) n ⌝ }
+{
+    let e = n.edition;
+    if same_numbers(n, numbers_in(file, e)) {
+        return n.refusal;
+    }
+    if same_numbers(n, EDITION_REFUSED) {
+        return n.refusal;
+    }
+    17
 }
 
 pub fn names_in(file: &[u8], n: EntryNumbers) -> Names
