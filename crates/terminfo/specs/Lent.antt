@@ -13,12 +13,16 @@ use Rattle.entry.specs.Asking.{askingString, partGiven}
 use Rattle.expansion.specs.declared.Expansion.{Expansion}
 use Rattle.expansion.specs.Expanding.{Expanding, expanding, counted, saysExpansion, lastingAfter, outputAfter}
 
--- "The lasting variables A to Z are lent by the caller and changed in place": a call that comes to a, with variables v before and v′
--- after, over a buffer with bytes b before and b′ after, answers r; a refusal leaves both
-pub record LentAs (a : Answer Expanding) (v v′ : List ℤ) (b : List ℕ) (at : ℕ) (b′ : List ℕ) (r : Expansion) : Type 0 where
+-- a call that comes to a, over a buffer with bytes b before and b′ after, answers r; a refusal leaves the buffer
+pub record WrittenAs (a : Answer Expanding) (b : List ℕ) (at : ℕ) (b′ : List ℕ) (r : Expansion) : Type 0 where
   pub answer : saysExpansion r ≡ mapAnswer counted a
-  pub lasting : v′ ≡ lastingAfter v a
   pub output : b′ ≡ outputAfter b at a
+
+-- "The lasting variables A to Z are lent by the caller and changed in place": such a call, with variables v before and v′ after; a refusal
+-- leaves them
+pub record LentAs (a : Answer Expanding) (v v′ : List ℤ) (b : List ℕ) (at : ℕ) (b′ : List ℕ) (r : Expansion) : Type 0 where
+  pub written : WrittenAs a b at b′ r
+  pub lasting : v′ ≡ lastingAfter v a
 
 -- the variables A to Z, all 0
 abbrev pub zeroLasting : List ℤ
@@ -27,8 +31,3 @@ zeroLasting = replicate 26 (pos 0)
 -- what expanding the string at place p of file f gives, the variables all 0: its content as asking gives it, no bytes where none is given
 abbrev pub expandingAt : Edition → List ℕ → Place → List ℤ → ℕ → ℕ → Answer Expanding
 expandingAt e f p arguments = expanding (bytesOf f (partGiven (askingString e f p))) arguments zeroLasting
-
--- a call that comes to a, over a buffer with bytes b before and b′ after, answers r; a refusal leaves the buffer
-pub record WrittenAs (a : Answer Expanding) (b : List ℕ) (at : ℕ) (b′ : List ℕ) (r : Expansion) : Type 0 where
-  pub answer : saysExpansion r ≡ mapAnswer counted a
-  pub output : b′ ≡ outputAfter b at a

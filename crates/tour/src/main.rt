@@ -1,11 +1,10 @@
-// A tour of the library: opens the compiled entry on standard input in the first edition, asks it for the number lines and the string cup,
-// expands cup at row 3, column 12, and prints the names, the lines, the output and the steps.
+// A tour of crate `terminfo`: opens the compiled entry on standard input in the first edition, asks it for its names, its lines and its string
+// cup, expands cup at row 3, column 12, and prints what it got. `visit` holds an entry and lends variables: it is proved by a walk.
 // Proved: it is safe and ends. Assumed: what libc says of C.
 use caps::Edition;
 use caps::Place;
 use entry::NumberState;
 use expansion::Expansion;
-use expansion::Lasting;
 use libc::STDIN_FILENO;
 use libc::STDOUT_FILENO;
 
@@ -15,47 +14,45 @@ const FIRST: Edition = Edition {
     strings: names::STRINGS,
 };
 
-const LINES: Place = Place(2);
-
-const CUP: Place = Place(10);
-
-const ROOM: usize = 64;
-
 fn say(bytes: &[u8]) {
     io::write_all(STDOUT_FILENO, bytes);
 }
 
-// A number on a line of its own, after a word.
-fn say_number(word: &[u8], n: u64) {
+fn say_number(word: &[u8], n: usize) {
     say(word);
-    io::print_decimal(STDOUT_FILENO, n);
+    io::print_decimal(STDOUT_FILENO, n as u64);
     say(b"\n");
 }
 
-// Opens, asks, expands, prints.
-fn show(file: &[u8]) {
-    say(states::names_part(file, FIRST));
-    say(b"\n");
-    let lines = states::number(file, FIRST, LINES);
+fn say_lines(lines: NumberState) {
     if let NumberState::Present(n) = lines {
-        say_number(b"lines ", n as u64);
+        say_number(b"\nlines ", n as usize);
     }
-    let cup = terminfo::open_string(file, FIRST, CUP);
-    let mut out = [0u8; ROOM];
-    let lasting = Lasting { values: [0; 26] };
-    let e = expand::expand(cup, [3, 12, 0, 0, 0, 0, 0, 0, 0], lasting, &mut out, 0);
-    let answer = e.answer;
+}
+
+fn say_expansion(out: &[u8], answer: Expansion) {
     if let Expansion::Done { length, steps } = answer {
-        if length <= ROOM {
-            let k = io::count(length as isize, &out);
-            say(&out[..k]);
+        if length <= out.len() {
+            say(&out[..length]);
         }
-        say_number(b"\nsteps ", steps as u64);
+        say_number(b"\nsteps ", steps);
     }
+}
+
+// Opens, asks, expands into out.
+fn visit(file: &[u8], out: &mut [u8]) -> Expansion {
+    let entry = terminfo::open(file, FIRST);
+    say(terminfo::names_part(entry));
+    say_lines(terminfo::number(entry, Place(2)));
+    let cup = terminfo::string_part(entry, Place(10));
+    let mut lasting = terminfo::zero_lasting();
+    terminfo::expand(cup, [3, 12, 0, 0, 0, 0, 0, 0, 0], &mut lasting, out, 0)
 }
 
 fn main() {
     let mut file = io::buffer();
     let n = io::read_full(STDIN_FILENO, &mut file);
-    show(&file[..n]);
+    let mut out = [0u8; 64];
+    let answer = visit(&file[..n], &mut out);
+    say_expansion(&out, answer);
 }

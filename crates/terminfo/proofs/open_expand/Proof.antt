@@ -16,7 +16,6 @@ use prog.Memory.{Memory}
 use prog.Routine.{Routine}
 use prog.Wp.{Heap, Calls, Loops, WpFn, Tables}
 use ghost.Atoms.{Atoms, sem}
-use contract.Lifetimes.{Lfts}
 use contract.Monad.{Fun, fact}
 use contract.Running.{givenOf, tables, tablesOf}
 use types.Kit.{Given, ‵, raw, _⊛_, ⋆, some, later, _$_, _∵_, !, qed, by, move, drop, use0, use1, use2, use3, split, join, rewrite, pick, fsplit, fjoin, feqL, suffices, frame, await, done}
@@ -53,12 +52,12 @@ use Rattle.caps.proofs.Edition as E
 use Rattle.caps.proofs.Edition.Laws as E′
 use Rattle.caps.proofs.Place as P
 use Rattle.caps.proofs.Place.Laws as P′
-use Rattle.entry.specs.Answer.{Answer, mapAnswer}
+use Rattle.entry.specs.Answer.{Answer}
 use Rattle.entry.specs.Asking.{askingString, partGiven}
 use Rattle.states.specs.Held.{IsPart}
 use Rattle.expansion.specs.declared.Lasting.{Lasting}
 use Rattle.expansion.specs.declared.Expansion.{Expansion}
-use Rattle.expansion.specs.Expanding.{Expanding, expanding, counted, saysExpansion, outputAfter}
+use Rattle.expansion.specs.Expanding.{Expanding, expanding}
 use Rattle.expansion.proofs.Lasting as L
 use Rattle.expansion.proofs.Lasting.Laws as L′
 use Rattle.expansion.proofs.Expansion as R
@@ -168,10 +167,7 @@ module _ {M : Type 1} (𝓤 : URA M) (H : Heap 𝓤) (A : Atoms 𝓤) (W : Given
   Claim zs a = WrittenAs (expandingAt e₀ (now s) p₀ xs (length ys) n) ys n zs a
 
   claimed : (r : Entry) (t : S .Denot) (h z : Lasting) (zs : List ℕ) (a : Expansion) → Opened r → Part r t → Zeros h → Said t h z zs a → Claim zs a
-  claimed r t h z zs a o d k g = record {
-    answer = subst (λ (w : Answer Expanding). saysExpansion a ≡ mapAnswer counted w) same (g .answer);
-    output = subst (λ (w : Answer Expanding). zs ≡ outputAfter ys n w) same (g .output);
-  }
+  claimed r t h z zs a o d k g = subst (λ (w : Answer Expanding). WrittenAs w ys n zs a) same (g .written)
     where
       part : IsPart s t (partGiven (askingString e₀ (now s) p₀))
       part = subst (IsPart s t) (ap partGiven (opened-string e₀ (now s) p₀)) (subst (λ (w : Entry). Part w t) o d)
