@@ -5,7 +5,6 @@ ghost use Prim.Native.Nat.{_≤_};
 use caps::Place;
 use entry::StringState;
 use expansion::Expansion;
-use expansion::Lasting;
 use names::Found;
 use number::Parsed;
 use ti_common::FILE_ROOM;
@@ -82,12 +81,16 @@ fn say_output(output: &[u8], steps: usize, is_verbose: bool) -> Status {
     ti_common::written(say(output))
 }
 
-// Expands a string of the file.
-fn expand_string(path: &[u8], string: &[u8], values: [i32; 9], is_verbose: bool) -> Status {
+// Expands the string at a place that the file has.
+fn expand_string(
+    path: &[u8],
+    file: &[u8],
+    place: Place,
+    values: [i32; 9],
+    is_verbose: bool,
+) -> Status {
     let mut out = [0u8; OUTPUT_ROOM];
-    let lasting = Lasting { values: [0i32; 26] };
-    let expanded = expand::expand(string, values, lasting, &mut out, 0);
-    let answer = expanded.answer;
+    let answer = terminfo::open_expand(file, FIRST, place, values, &mut out, 0);
     match answer {
         Expansion::Done { length, steps } => {
             let k = ti_common::part(length, &out);
@@ -120,10 +123,7 @@ fn expand_place(
     is_verbose: bool,
 ) -> Status {
     match states::string(file, FIRST, place) {
-        StringState::Present(_) => {
-            let string = states::string_part(file, FIRST, place);
-            expand_string(path, string, values, is_verbose)
-        }
+        StringState::Present(_) => expand_string(path, file, place, values, is_verbose),
         StringState::Absent => refuse_state(path, name, b" is absent\n"),
         StringState::Cancelled => refuse_state(path, name, b" is cancelled\n"),
         StringState::Refused => refuse(path, 17),
