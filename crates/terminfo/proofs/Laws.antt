@@ -16,9 +16,9 @@ use Rattle.entry_laws.specs.Accepted.{passed, reading-accepted}
 use Rattle.entry_laws.specs.Asked.{asking-gives}
 use Rattle.states.proofs.Laws.{opened-accepted}
 
-pub opened-beyond : (e : Edition) (f : List ℕ) (t : Tables) (b : Beyond) → gives (record { tables = t; beyond = b }) ≡ opening e f → gives b ≡ asking e f true (beyondOf e (sizesOf f))
+pub beyond-given : (e : Edition) (f : List ℕ) (t : Tables) (b : Beyond) → gives (record { tables = t; beyond = b }) ≡ opening e f → gives b ≡ asking e f true (beyondOf e (sizesOf f))
 unfolding opening
-opened-beyond e f t b g =
+beyond-given e f t b g =
     let x : Opening = record { tables = t; beyond = b } in
     let o : isGiven (opening e f) ≡ true = ap isGiven (sym g) in
     let p : mapAnswer (openingOf e) (reading f) ≡ gives x = passed (okEdition e) 3 [] (mapAnswer (openingOf e) (reading f)) x (sym g) .1 in

@@ -4,7 +4,7 @@ use borrow.Author.Tests.{not-true, not-false}
 use Rattle.entry.specs.Says.{saysOpened}
 use Rattle.states.proofs.Laws.{asking-unopened}
 use Rattle.terminfo.specs.EntryLaws.{asked-other, asked-same}
-use Rattle.terminfo.proofs.Laws.{opened-beyond}
+use Rattle.terminfo.proofs.Laws.{beyond-given}
 use borrow.Author.Needs.{needs}
 use Rattle.terminfo.proofs.slices.beyond_in.Statement.{statement}
 use Rattle.terminfo.proofs.slices.beyond_in.Tie as tie
@@ -31,7 +31,7 @@ enum-told : tie.Need-enum-told
 enum-told c = search needs
 
 returns-2 : tie.Need-returns-2
-returns-2 c = asked-same _ _ _ _ _ (c .before .before .before .before .before .before .«open» .ensures) (c .before .before .before .before .before .numbers-of .ensures) (c .before .before .before .before .same-numbers .ensures) _ _ (not-false _ (c .before .before .before .if1 .left)) (opened-beyond _ _ _ _ (ap saysOpened (sym (c .before .o .given .1)) ∙ c .before .before .before .before .before .before .«open» .ensures))
+returns-2 c = asked-same _ _ _ _ _ (c .before .before .before .before .before .before .«open» .ensures) (c .before .before .before .before .before .numbers-of .ensures) (c .before .before .before .before .same-numbers .ensures) _ _ (not-false _ (c .before .before .before .if1 .left)) (beyond-given _ _ _ _ (ap saysOpened (sym (c .before .o .given .1)) ∙ c .before .before .before .before .before .before .«open» .ensures))
 
 returns-3 : tie.Need-returns-3
 returns-3 c = asked-same _ _ _ _ _ (c .before .before .before .before .before .«open» .ensures) (c .before .before .before .before .numbers-of .ensures) (c .before .before .before .same-numbers .ensures) _ _ (not-false _ (c .before .before .if1 .left)) (asking-unopened _ _ _ _ _ _ (ap saysOpened (sym (c .enum-told .given .1)) ∙ c .before .before .before .before .before .«open» .ensures))
