@@ -1,10 +1,10 @@
--- `states::ask::reply_if_opened` meets its contract: by the question's kind.
+-- `ask::reply_if_opened` meets its contract: by the question's kind.
 use denote.Ref.{now}
 use mathlib.Core.Path.{sym, ap, _∙_}
 use borrow.Author.Needs.{needs}
-use Rattle.states.specs.Ask.{boolean, number, string, replying}
-use Rattle.states.proofs.ask.reply_if_opened.Statement.{statement}
-use Rattle.states.proofs.ask.reply_if_opened.Tie as tie
+use Rattle.ask.specs.Ask.{boolean, number, string, replying}
+use Rattle.ask.proofs.reply_if_opened.Statement.{statement}
+use Rattle.ask.proofs.reply_if_opened.Tie as tie
 
 enum-told : tie.Need-enum-told
 enum-told c = search needs

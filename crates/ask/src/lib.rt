@@ -1,9 +1,10 @@
-// Opens a file once and answers several questions about it.
+// Opens a file once and answers several questions about it (document 01: Compiled entry). Proved: `ask` answers every slice of bytes, every
+// edition and every eight questions as the definitions of entry/specs do. Assumed: nothing.
 ghost use mathlib.Core.Path.{_≡_};
 ghost use mathlib.Core.List.{map};
 ghost use Rattle.entry.specs.Asking.{opening};
 ghost use Rattle.entry.specs.Says.{saysOpened};
-ghost use Rattle.states.specs.Ask.{replying, saysReply};
+ghost use Rattle.ask.specs.Ask.{replying, saysReply};
 use caps::Edition;
 use caps::Place;
 use entry::BooleanState;
@@ -34,14 +35,14 @@ fn reply_if_opened(file: &[u8], edition: Edition, o: Opened, question: Question)
 {
     match question {
         Question::Nothing => Reply::Nothing,
-        Question::Boolean(p) => Reply::Boolean(crate::opened::boolean_if_opened(
+        Question::Boolean(p) => Reply::Boolean(states::opened::boolean_if_opened(
             file,
             edition,
             o,
             p,
         )),
-        Question::Number(p) => Reply::Number(crate::opened::number_if_opened(file, edition, o, p)),
-        Question::String(p) => Reply::String(crate::opened::string_if_opened(file, edition, o, p)),
+        Question::Number(p) => Reply::Number(states::opened::number_if_opened(file, edition, o, p)),
+        Question::String(p) => Reply::String(states::opened::string_if_opened(file, edition, o, p)),
     }
 }
 

@@ -8,10 +8,10 @@ use Rattle.entry.specs.State.{State}
 use Rattle.entry.specs.Answer.{Answer}
 use Rattle.entry.specs.Asking.{askingBoolean, askingNumber, askingString}
 use Rattle.entry.specs.Says.{saysBoolean, saysNumber, saysString}
-use Rattle.states.specs.declared.ask.Question.{Question}
-use Rattle.states.specs.declared.ask.Question.the-variants as Q
-use Rattle.states.specs.declared.ask.Reply.{Reply}
-use Rattle.states.specs.declared.ask.Reply.the-variants as R
+use Rattle.ask.specs.declared.Question.{Question}
+use Rattle.ask.specs.declared.Question.the-variants as Q
+use Rattle.ask.specs.declared.Reply.{Reply}
+use Rattle.ask.specs.declared.Reply.the-variants as R
 
 -- a reply in document 01's terms: nothing where nothing was asked
 pub data Replied : Type 0 where

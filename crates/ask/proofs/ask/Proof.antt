@@ -1,4 +1,4 @@
--- `states::ask::ask` meets its contract. The invariant: the first i replies are those to the first i questions.
+-- `ask::ask` meets its contract. The invariant: the first i replies are those to the first i questions.
 use denote.Ref.{now}
 use mathlib.Core.Path.{_≡_}
 use mathlib.Core.List.{map}
@@ -6,11 +6,11 @@ use Prim.Native.Nat.{_-_, _≤_}
 use lib.ListN.{length, take, length-set}
 use native.Mathlib.Omega.{arith}
 use borrow.Author.Needs.{needs}
-use Rattle.states.specs.declared.ask.Question.the-variants as Q
-use Rattle.states.specs.Ask.{saysReply, replying}
-use Rattle.states.proofs.Laws.{map-more, map-whole}
-use Rattle.states.proofs.ask.ask.Statement.{statement}
-use Rattle.states.proofs.ask.ask.Tie as tie
+use Rattle.ask.specs.declared.Question.the-variants as Q
+use Rattle.ask.specs.Ask.{saysReply, replying}
+use Rattle.ask.proofs.Laws.{map-more, map-whole}
+use Rattle.ask.proofs.ask.Statement.{statement}
+use Rattle.ask.proofs.ask.Tie as tie
 
 abbrev Inv-loop : tie.InvT-loop
 Inv-loop file edition questions o replies₀ i₀ replies i =
