@@ -2,17 +2,14 @@
 -- Assumes nothing.
 use mathlib.Core.Path.{_≡_, refl, sym, ap, ap₂, _∙_, subst}
 use mathlib.Core.Bool.{Bool, true, false, _&&_, not, and-false}
-use mathlib.Core.List.{List, [], _∷_, map}
+use mathlib.Core.List.{List, []}
 use Prim.Native.Nat.{ℕ, _+_, _-_, _*_, _≤_, _<_}
-use native.Mathlib.Numerals.{add-one}
 use native.Mathlib.Omega.{arith}
 use lib.Dec.{ltb}
-use lib.ListN.{length, getD, take, drop, set}
-use lib.Seq.{take-suc, take-suc-set, take-all}
+use lib.ListN.{length, getD}
 use borrow.Author.Tests.{lt-ltb, le-ltb, ltb-true, eq-eqb, ne-eqb}
 use Rattle.base.specs.If.{if_then_else_, true-false, and-right}
 use Rattle.base.specs.Scan.{scan-ge}
-use Rattle.base.specs.Tabulate.{map-append}
 use Rattle.word.specs.Word.{word}
 use Rattle.word.specs.Nul.{notNul, nulFrom}
 use Rattle.caps.specs.declared.Edition.{Edition}
@@ -218,16 +215,3 @@ string-inside e f p q g =
     by-slot absent k = tt
     by-slot cancelled k = tt
     by-slot (present c) k = content-inside f (sizesOf f) (offset c) k
-
--- ---- a list filled in step with another
-
-module _ {A B C : Type 0} (g : A → C) (h : B → C) (xs : List A) (ys : List B) (i : ℕ) where
-  -- one element more
-  pub map-more : (a : A) (d : B) → i < length xs → i < length ys → g a ≡ h (getD ys i d) → map g (take i xs) ≡ map h (take i ys)
-      → map g (take (i + 1) (set xs i a)) ≡ map h (take (i + 1) ys)
-  map-more a d l m q p =
-      rw (add-one i, take-suc-set xs i a l, take-suc ys i d m, map-append g (take i xs) (a ∷ []), map-append h (take i ys) (getD ys i d ∷ []), p, q)
-
-  -- all of them
-  pub map-whole : length xs ≤ i → length ys ≤ i → map g (take i xs) ≡ map h (take i ys) → map g xs ≡ map h ys
-  map-whole l m p = ap (map g) (sym (take-all i xs l)) ∙ p ∙ ap (map h) (take-all i ys m)

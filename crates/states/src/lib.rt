@@ -15,7 +15,6 @@ use entry::Opened;
 use entry::Part;
 use entry::StringState;
 
-pub mod ask;
 pub mod opened;
 
 // The file's names, without their NUL.

@@ -38,7 +38,8 @@ use Rattle.entry_laws.specs.Demands.{written-only-if}
 use Rattle.entry_laws.specs.MergeDemands.{merged-only-if}
 use Rattle.names.specs.Naming.{naming}
 use Rattle.states.proofs.Laws.{asking-given, opened-accepted, names-inside, string-inside}
-use Rattle.terminfo_c.specs.Numbers.{numbered, none, arrayAfter, openingArray, booleanCode, numberCode, stringCode, askedCode, asking8, namingBy, NamesWithin, StringWithin, WrittenWithin, MergedWithin}
+use Rattle.c_numbers.specs.Numbers.{numbered, none, openingArray, booleanCode, numberCode, stringCode, NamesWithin, StringWithin, WrittenWithin, MergedWithin}
+use Rattle.terminfo_c.specs.Calls.{arrayAfter, askedCode, asking8, namingBy}
 
 -- ---- parts lie in a file
 

@@ -7,7 +7,8 @@ ghost use Rattle.entry.specs.Answer.{mapAnswer};
 ghost use Rattle.entry.specs.Asking.{opening, askingNames};
 ghost use Rattle.writer.specs.Handed.{handed};
 ghost use Rattle.expansion.specs.Expanding.{expanding};
-ghost use Rattle.terminfo_c.specs.Numbers.{edition, numbered, none, partCode, arrayAfter, openingArray, booleanNumber, numberNumber, stringNumber, asking8, namingBy, WrittenNumber, MergedNumber, CompiledNumber, ExpandedNumber};
+ghost use Rattle.c_numbers.specs.Numbers.{numbered, none, partCode, openingArray};
+ghost use Rattle.terminfo_c.specs.Calls.{edition, arrayAfter, booleanNumber, numberNumber, stringNumber, asking8, namingBy, WrittenNumber, MergedNumber, CompiledNumber, ExpandedNumber};
 use caps::Edition;
 use caps::Kind;
 use caps::Place;
@@ -15,7 +16,7 @@ use entry::Opened;
 use expansion::Lasting;
 use names::Name;
 
-mod numbers;
+mod ask;
 
 // Opens a file: 0, with the array filled, or the refusal.
 #[no_mangle]
@@ -37,10 +38,10 @@ pub extern "C" fn terminfo_open(
         },
     ) {
         Opened::Entry(t, b) => {
-            *tables = numbers::opening_array(t, b);
+            *tables = c_numbers::opening_array(t, b);
             0
         }
-        Opened::Refused(why) => numbers::file_number(why) * numbers::TOP,
+        Opened::Refused(why) => c_numbers::file_number(why) * c_numbers::TOP,
     }
 }
 
@@ -62,7 +63,7 @@ pub extern "C" fn terminfo_names(
             strings,
         },
     );
-    numbers::names_number(n)
+    c_numbers::names_number(n)
 }
 
 // The state of the boolean at a place.
@@ -85,7 +86,7 @@ pub extern "C" fn terminfo_boolean(
         },
         Place(place),
     );
-    numbers::boolean_number(s)
+    c_numbers::boolean_number(s)
 }
 
 // The state of the number at a place.
@@ -108,7 +109,7 @@ pub extern "C" fn terminfo_number(
         },
         Place(place),
     );
-    numbers::number_number(s)
+    c_numbers::number_number(s)
 }
 
 // The state of the string at a place.
@@ -131,7 +132,7 @@ pub extern "C" fn terminfo_string(
         },
         Place(place),
     );
-    numbers::string_number(s)
+    c_numbers::string_number(s)
 }
 
 // Eight places at once: 0, with the answers stored, or 17 where opening would refuse.
@@ -155,10 +156,10 @@ pub extern "C" fn terminfo_ask(
     let o = read::open(file, e);
     match o {
         Opened::Entry(_, _) => {
-            *answers = numbers::asked_numbers(file, e, o, kinds, places);
+            *answers = ask::asked_numbers(file, e, o, kinds, places);
             0
         }
-        Opened::Refused(_) => 17 * numbers::TOP,
+        Opened::Refused(_) => 17 * c_numbers::TOP,
     }
 }
 
@@ -196,7 +197,7 @@ pub extern "C" fn terminfo_write(
         lent,
         buffer,
     );
-    numbers::written_number(w)
+    c_numbers::written_number(w)
 }
 
 // Merges the first file over the second: the merged file's length, or the refusal.
@@ -221,7 +222,7 @@ pub extern "C" fn terminfo_merge(
         },
         buffer,
     );
-    numbers::merged_number(m)
+    c_numbers::merged_number(m)
 }
 
 // Compiles a text in the first edition: the file's length, or the refusal.
@@ -230,7 +231,7 @@ pub extern "C" fn terminfo_compile(text: &[u8], buffer: &mut [u8]) -> u64
     ensures { λ r. ⌜ CompiledNumber (now (text .entry)) (now (buffer .entry)) (now (buffer .exit)) r ⌝ }
 {
     let c = compile::compile(text, buffer);
-    numbers::compiled_number(c)
+    c_numbers::compiled_number(c)
 }
 
 // The name at a place of a kind's list in the first edition: its bytes, low byte first.
@@ -239,15 +240,15 @@ pub extern "C" fn terminfo_capability(kind: u8, place: usize) -> u64
     ensures { λ r. ⌜ r ≡ numbered (λ w. w) (namingBy kind place) ⌝ }
 {
     if kind == 0 {
-        return numbers::name_number(names::name_of(Kind::Boolean, Place(place)));
+        return c_numbers::name_number(names::name_of(Kind::Boolean, Place(place)));
     }
     if kind == 1 {
-        return numbers::name_number(names::name_of(Kind::Number, Place(place)));
+        return c_numbers::name_number(names::name_of(Kind::Number, Place(place)));
     }
     if kind == 2 {
-        return numbers::name_number(names::name_of(Kind::String, Place(place)));
+        return c_numbers::name_number(names::name_of(Kind::String, Place(place)));
     }
-    17 * numbers::TOP
+    17 * c_numbers::TOP
 }
 
 // Expands a string into the buffer from place at on: the steps above the output's length, or the refusal. The lasting variables change in
@@ -269,5 +270,5 @@ pub extern "C" fn terminfo_expand(
     let values = after.values;
     *lasting = values;
     let answer = e.answer;
-    numbers::expansion_number(answer)
+    c_numbers::expansion_number(answer)
 }

@@ -1,6 +1,6 @@
 -- `terminfo_c::terminfo_boolean` meets its contract: the state's number.
 use mathlib.Core.Path.{ap, _∙_}
-use Rattle.terminfo_c.specs.Numbers.{numbered, booleanCode}
+use Rattle.c_numbers.specs.Numbers.{numbered, booleanCode}
 use borrow.Author.Needs.{needs}
 use Rattle.terminfo_c.proofs.terminfo_boolean.Statement.{statement}
 use Rattle.terminfo_c.proofs.terminfo_boolean.Tie as tie

@@ -1,6 +1,6 @@
 -- `terminfo_c::terminfo_capability` meets its contract, kind by kind.
 use mathlib.Core.Path.{ap, _∙_}
-use Rattle.terminfo_c.specs.Numbers.{numbered}
+use Rattle.c_numbers.specs.Numbers.{numbered}
 use Rattle.terminfo_c.proofs.Laws.{named-boolean, named-number, named-string, named-none}
 use borrow.Author.Needs.{needs}
 use Rattle.terminfo_c.proofs.terminfo_capability.Statement.{statement}

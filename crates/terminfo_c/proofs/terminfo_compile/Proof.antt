@@ -6,7 +6,7 @@ use lib.ListN.{length}
 use borrow.Author.Needs.{needs}
 use Rattle.names.specs.Names.{firstEdition}
 use Rattle.text_laws.specs.Values.{Bounded, compiling-bounded}
-use Rattle.terminfo_c.specs.Numbers.{numbered}
+use Rattle.c_numbers.specs.Numbers.{numbered}
 use Rattle.terminfo_c.proofs.Laws.{numbered-length}
 use Rattle.terminfo_c.proofs.terminfo_compile.Statement.{statement}
 use Rattle.terminfo_c.proofs.terminfo_compile.Tie as tie

@@ -1,6 +1,6 @@
 -- `terminfo_c::terminfo_expand` meets its contract: what expanding answers, as a number.
 use mathlib.Core.Path.{ap, _∙_}
-use Rattle.terminfo_c.specs.Numbers.{expansionNumber}
+use Rattle.c_numbers.specs.Numbers.{expansionNumber}
 use borrow.Author.Needs.{needs}
 use Rattle.terminfo_c.proofs.terminfo_expand.Statement.{statement}
 use Rattle.terminfo_c.proofs.terminfo_expand.Tie as tie

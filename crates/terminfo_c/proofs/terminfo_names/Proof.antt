@@ -1,6 +1,6 @@
 -- `terminfo_c::terminfo_names` meets its contract: the part's number.
 use mathlib.Core.Path.{ap, _∙_}
-use Rattle.terminfo_c.specs.Numbers.{numbered, partCode}
+use Rattle.c_numbers.specs.Numbers.{numbered, partCode}
 use Rattle.terminfo_c.proofs.Laws.{names-within}
 use borrow.Author.Needs.{needs}
 use Rattle.terminfo_c.proofs.terminfo_names.Statement.{statement}

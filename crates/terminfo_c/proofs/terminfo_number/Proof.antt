@@ -1,6 +1,6 @@
 -- `terminfo_c::terminfo_number` meets its contract: the state's number.
 use mathlib.Core.Path.{ap, _∙_}
-use Rattle.terminfo_c.specs.Numbers.{numbered, numberCode}
+use Rattle.c_numbers.specs.Numbers.{numbered, numberCode}
 use borrow.Author.Needs.{needs}
 use Rattle.terminfo_c.proofs.terminfo_number.Statement.{statement}
 use Rattle.terminfo_c.proofs.terminfo_number.Tie as tie

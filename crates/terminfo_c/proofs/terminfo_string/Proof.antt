@@ -1,6 +1,6 @@
 -- `terminfo_c::terminfo_string` meets its contract: the state's number.
 use mathlib.Core.Path.{ap, _∙_}
-use Rattle.terminfo_c.specs.Numbers.{numbered, stringCode}
+use Rattle.c_numbers.specs.Numbers.{numbered, stringCode}
 use Rattle.terminfo_c.proofs.Laws.{string-within}
 use borrow.Author.Needs.{needs}
 use Rattle.terminfo_c.proofs.terminfo_string.Statement.{statement}

@@ -1,0 +1,74 @@
+-- `c_numbers::string_number` meets its contract, case by case; a part of a file fits its bits.
+use mathlib.Core.Path.{subst}
+use native.Mathlib.Omega.{arith}
+use Rattle.c_numbers.specs.Numbers.{numbered, stateCode, StringWithin}
+use borrow.Author.Needs.{needs}
+use Rattle.c_numbers.proofs.string_number.Statement.{statement}
+use Rattle.c_numbers.proofs.string_number.Tie as tie
+
+enum-told : tie.Need-enum-told
+enum-told c = search needs
+
+enum-known-s : tie.Need-enum-known-s
+enum-known-s c = search needs
+
+mul-result : tie.Need-mul-result
+mul-result c =
+    let h = subst StringWithin (c .before .s .given .1) (c .before .before .before .pre) in
+    omega arith
+
+add-result : tie.Need-add-result
+add-result c =
+    let h = subst StringWithin (c .before .s .given .1) (c .before .before .before .pre) in
+    omega arith
+
+add-result-2 : tie.Need-add-result-2
+add-result-2 c =
+    let h = subst StringWithin (c .before .s .given .1) (c .before .before .before .pre) in
+    omega arith
+
+enum-told-2 : tie.Need-enum-told-2
+enum-told-2 c = search needs
+
+mul-result-2 : tie.Need-mul-result-2
+mul-result-2 c = search needs
+
+enum-told-3 : tie.Need-enum-told-3
+enum-told-3 c = search needs
+
+mul-result-3 : tie.Need-mul-result-3
+mul-result-3 c = search needs
+
+returns : tie.Need-returns
+unfolding numbered stateCode
+returns c = rw (c .enum-told .given .1)
+
+returns-2 : tie.Need-returns-2
+unfolding numbered stateCode
+returns-2 c = rw (c .before .s .given .1) (omega arith)
+
+returns-3 : tie.Need-returns-3
+unfolding numbered stateCode
+returns-3 c = rw (c .enum-told2 .given .1)
+
+returns-4 : tie.Need-returns-4
+unfolding numbered stateCode
+returns-4 c = rw (c .enum-told3 .given .1)
+
+pub string-number-spec : {M : Type 1} → statement M
+string-number-spec =
+    tie.close
+    (tie.spec
+    enum-told
+    enum-known-s
+    mul-result
+    add-result
+    add-result-2
+    enum-told-2
+    mul-result-2
+    enum-told-3
+    mul-result-3
+    returns
+    returns-2
+    returns-3
+    returns-4)

@@ -1,0 +1,89 @@
+-- Each answer as one 64-bit number (include/terminfo_c.h says the same in words). Assumes nothing.
+use mathlib.Core.List.{List, [], _∷_}
+use Prim.Native.Nat.{ℕ, _+_, _*_, _%_, _^_, _≤_}
+use lib.ListN.{getD}
+use Rattle.entry.specs.declared.Part.{Part}
+use Rattle.entry.specs.State.{State, absent, cancelled, present}
+use Rattle.entry.specs.declared.Names.{Names}
+use Rattle.entry.specs.declared.Names.the-variants as M
+use Rattle.entry.specs.declared.StringState.{StringState}
+use Rattle.entry.specs.declared.StringState.the-variants as S
+use Rattle.entry.specs.declared.Written.{Written}
+use Rattle.entry.specs.declared.Written.the-variants as W
+use Rattle.entry.specs.declared.Merged.{Merged}
+use Rattle.entry.specs.declared.Merged.the-variants as G
+use Rattle.entry.specs.Limits.{fileMost}
+use Rattle.entry.specs.Answer.{Answer, refused, gives}
+use Rattle.entry.specs.Asking.{Opening}
+use Rattle.expansion.specs.Expanding.{Counts}
+
+-- the refusal's number in the top byte and the first value that it gives below it; or what the call gives, by its own code
+unfoldable pub numbered : {A : Type 0} → (A → ℕ) → Answer A → ℕ
+numbered code (refused n v) = n * 2 ^ 56 + getD v 0 0
+numbered code (gives x) = code x
+
+-- a call that gives nothing in its number
+abbrev pub none : {A : Type 0} → A → ℕ
+none x = 0
+
+-- a state: its kind (0 absent, 1 present, 2 cancelled) in the byte below the top one, and a present one's content below it
+unfoldable pub stateCode : {A : Type 0} → (A → ℕ) → State A → ℕ
+stateCode code absent = 0
+stateCode code (present x) = 2 ^ 48 + code x
+stateCode code cancelled = 2 * 2 ^ 48
+
+abbrev pub booleanCode : State Unit → ℕ
+booleanCode s = stateCode none s
+
+abbrev pub numberCode : State ℕ → ℕ
+numberCode s = stateCode (λ n. n) s
+
+-- a part: its start above its length, which has 24 bits
+abbrev pub partCode : Part → ℕ
+partCode p = p .start * 2 ^ 24 + p .length
+
+abbrev pub stringCode : State Part → ℕ
+stringCode s = stateCode partCode s
+
+-- the array that opening fills: slots of each list, where each table starts, slots beyond the edition
+abbrev pub openingArray : Opening → List ℕ
+openingArray o =
+    o .tables .booleans ∷ o .tables .numbers ∷ o .tables .strings
+    ∷ o .tables .«booleans_at» ∷ o .tables .«numbers_at» ∷ o .tables .«strings_at» ∷ o .tables .«table_at»
+    ∷ o .beyond .booleans ∷ o .beyond .numbers ∷ o .beyond .strings ∷ []
+
+-- the refusal's number above the first value that it gives; or the steps above the output's length, in 24 bits each. A string has at most
+-- 1,000 items, so that values, steps and lengths are far below these bounds
+unfoldable pub expansionNumber : Answer Counts → ℕ
+expansionNumber (refused n v) = n * 2 ^ 56 + getD v 0 0 % 2 ^ 56
+expansionNumber (gives c) = c .steps % 2 ^ 24 * 2 ^ 24 + c .length % 2 ^ 24
+
+-- ---- what keeps the numbers below their bits: parts lie in a file, and so does what is written
+
+abbrev pub PartWithin : Part → Type 0
+PartWithin p = p .start + p .length ≤ fileMost
+
+abbrev pub NamesWithin : Names → Type 0
+NamesWithin (M.At p) = PartWithin p
+NamesWithin M.Refused = Unit {0}
+
+abbrev pub StringWithin : StringState → Type 0
+StringWithin S.Absent = Unit {0}
+StringWithin S.Cancelled = Unit {0}
+StringWithin (S.Present p) = PartWithin p
+StringWithin S.Refused = Unit {0}
+
+abbrev pub WrittenWithin : Written → Type 0
+WrittenWithin (W.File n) = n ≤ fileMost
+WrittenWithin W.Counts = Unit {0}
+WrittenWithin W.Names = Unit {0}
+WrittenWithin W.Lent = Unit {0}
+WrittenWithin W.Limit = Unit {0}
+WrittenWithin W.Size = Unit {0}
+WrittenWithin (W.Room n) = n ≤ fileMost
+
+abbrev pub MergedWithin : Merged → Type 0
+MergedWithin (G.File n) = n ≤ fileMost
+MergedWithin (G.Refused r) = Unit {0}
+MergedWithin G.Size = Unit {0}
+MergedWithin (G.Room n) = n ≤ fileMost

@@ -1,0 +1,183 @@
+// Answers as 64-bit numbers, for the calls for C and Rust (include/terminfo_c.h): the refusal's number in the top byte, 0 for success, and
+// below it what the refusal or the call gives. Proved: each number is the one that specs/Numbers.antt gives for what the answer says.
+// Assumed: nothing.
+ghost use mathlib.Core.Path.{_≡_};
+ghost use Prim.Native.Nat.{_≤_};
+ghost use Rattle.entry.specs.Says.{saysNames, saysBoolean, saysNumber, saysString, saysWritten, saysMerged, fileNumber};
+ghost use Rattle.names.specs.Naming.{saysName};
+ghost use Rattle.text.specs.Compiling.{textNumber, saysCompiled};
+ghost use Rattle.text_laws.specs.Values.{Bounded};
+ghost use Rattle.expansion.specs.Expanding.{saysExpansion};
+ghost use Rattle.c_numbers.specs.Numbers.{numbered, booleanCode, numberCode, stringCode, partCode, openingArray, NamesWithin, StringWithin, WrittenWithin, MergedWithin, expansionNumber};
+use entry::Beyond;
+use entry::BooleanState;
+use entry::FileRefusal;
+use entry::Merged;
+use entry::Names;
+use entry::NumberState;
+use entry::StringState;
+use entry::Tables;
+use entry::Written;
+use expansion::Expansion;
+use names::Name;
+use text::Compiled;
+use text::TextRefusal;
+
+// A refusal's number stands in the top byte.
+pub const TOP: u64 = 72057594037927936;
+// A state's kind stands in the byte below it.
+const KIND: u64 = 281474976710656;
+// A part's start stands above its length.
+const START: u64 = 16777216;
+
+pub fn file_number(why: FileRefusal) -> u64
+    ensures { λ r. ⌜ (r ≡ fileNumber why) × (r ≤ 7) ⌝ }
+{
+    match why {
+        FileRefusal::Length => 1,
+        FileRefusal::Magic => 2,
+        FileRefusal::Counts => 3,
+        FileRefusal::Names => 4,
+        FileRefusal::Boolean => 5,
+        FileRefusal::Number => 6,
+        FileRefusal::Slot => 7,
+    }
+}
+
+// What opening gives, as an array.
+pub fn opening_array(t: Tables, b: Beyond) -> [u64; 10]
+    ensures { λ r. ⌜ r ≡ openingArray (record { tables = t; beyond = b }) ⌝ }
+{
+    [
+        t.booleans as u64,
+        t.numbers as u64,
+        t.strings as u64,
+        t.booleans_at as u64,
+        t.numbers_at as u64,
+        t.strings_at as u64,
+        t.table_at as u64,
+        b.booleans as u64,
+        b.numbers as u64,
+        b.strings as u64,
+    ]
+}
+
+pub fn names_number(n: Names) -> u64
+    requires { ⌜ NamesWithin n ⌝ }
+    ensures { λ r. ⌜ r ≡ numbered partCode (saysNames n) ⌝ }
+{
+    match n {
+        Names::At(p) => (p.start as u64) * START + p.length as u64,
+        Names::Refused => 17 * TOP,
+    }
+}
+
+pub fn boolean_number(s: BooleanState) -> u64
+    ensures { λ r. ⌜ r ≡ numbered booleanCode (saysBoolean s) ⌝ }
+{
+    match s {
+        BooleanState::Absent => 0,
+        BooleanState::Present => KIND,
+        BooleanState::Cancelled => 2 * KIND,
+        BooleanState::Refused => 17 * TOP,
+    }
+}
+
+pub fn number_number(s: NumberState) -> u64
+    ensures { λ r. ⌜ r ≡ numbered numberCode (saysNumber s) ⌝ }
+{
+    match s {
+        NumberState::Absent => 0,
+        NumberState::Present(n) => KIND + n as u64,
+        NumberState::Cancelled => 2 * KIND,
+        NumberState::Refused => 17 * TOP,
+    }
+}
+
+pub fn string_number(s: StringState) -> u64
+    requires { ⌜ StringWithin s ⌝ }
+    ensures { λ r. ⌜ r ≡ numbered stringCode (saysString s) ⌝ }
+{
+    match s {
+        StringState::Absent => 0,
+        StringState::Present(p) => KIND + (p.start as u64) * START + p.length as u64,
+        StringState::Cancelled => 2 * KIND,
+        StringState::Refused => 17 * TOP,
+    }
+}
+
+pub fn written_number(w: Written) -> u64
+    requires { ⌜ WrittenWithin w ⌝ }
+    ensures { λ r. ⌜ r ≡ numbered (λ n. n) (saysWritten w) ⌝ }
+{
+    match w {
+        Written::File(n) => n as u64,
+        Written::Counts => 3 * TOP,
+        Written::Names => 4 * TOP,
+        Written::Lent => 7 * TOP,
+        Written::Limit => 13 * TOP,
+        Written::Size => 9 * TOP,
+        Written::Room(n) => 8 * TOP + n as u64,
+    }
+}
+
+pub fn merged_number(m: Merged) -> u64
+    requires { ⌜ MergedWithin m ⌝ }
+    ensures { λ r. ⌜ r ≡ numbered (λ n. n) (saysMerged m) ⌝ }
+{
+    match m {
+        Merged::File(n) => n as u64,
+        Merged::Refused(why) => file_number(why) * TOP,
+        Merged::Size => 9 * TOP,
+        Merged::Room(n) => 8 * TOP + n as u64,
+    }
+}
+
+// A text's refusal: document 01's number.
+fn text_number(why: TextRefusal) -> u64
+    ensures { λ r. ⌜ (r ≡ textNumber why) × (r ≤ 13) ⌝ }
+{
+    match why {
+        TextRefusal::Malformed => 10,
+        TextRefusal::Unknown => 11,
+        TextRefusal::Use => 12,
+        TextRefusal::Limit => 13,
+    }
+}
+
+pub fn compiled_number(c: Compiled) -> u64
+    requires { ⌜ Bounded (saysCompiled c) ⌝ }
+    ensures { λ r. ⌜ r ≡ numbered (λ n. n) (saysCompiled c) ⌝ }
+{
+    match c {
+        Compiled::File(n) => n as u64,
+        Compiled::Length => TOP,
+        Compiled::Refused(why, place) => text_number(why) * TOP + place as u64,
+        Compiled::Size => 9 * TOP,
+        Compiled::Room(n) => 8 * TOP + n as u64,
+    }
+}
+
+pub fn name_number(n: Name) -> u64
+    ensures { λ r. ⌜ r ≡ numbered (λ w. w) (saysName n) ⌝ }
+{
+    match n {
+        Name::Packed(w) => w,
+        Name::Beyond => 17 * TOP,
+    }
+}
+
+pub fn expansion_number(e: Expansion) -> u64
+    ensures { λ r. ⌜ r ≡ expansionNumber (saysExpansion e) ⌝ }
+{
+    match e {
+        Expansion::Done { length, steps } => (steps as u64) % START * START
+            + (length as u64) % START,
+        Expansion::Place => 17 * TOP,
+        Expansion::Length => TOP,
+        Expansion::Malformed(i) => 14 * TOP + (i as u64) % TOP,
+        Expansion::Empty(i) => 15 * TOP + (i as u64) % TOP,
+        Expansion::Full(i) => 16 * TOP + (i as u64) % TOP,
+        Expansion::Room(n) => 8 * TOP + (n as u64) % TOP,
+    }
+}
