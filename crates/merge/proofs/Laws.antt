@@ -3,17 +3,16 @@
 use mathlib.Core.Path.{_≡_, refl, sym, ap, _∙_, subst}
 use mathlib.Core.Bool.{Bool, true, false}
 use mathlib.Core.List.{List, [], _∷_, _++_}
-use Prim.Native.Nat.{ℕ, zero, suc, _+_, _-_, _*_, _^_, _≤_, _<_}
-use native.Mathlib.Nat.{mul-suc}
+use Prim.Native.Nat.{ℕ, _+_, _-_, _*_, _^_, _≤_, _<_}
 use native.Mathlib.Decide.{ℕ-discrete}
 use native.Mathlib.Omega.{arith}
 use lib.Dec.{eqb, leb}
-use lib.ListN.{length, getD, take, drop, set, length-append}
+use lib.ListN.{length, take, drop, set, length-append}
 use lib.Seq.{getD-set-same, getD-set-other, drop-append-add}
 use borrow.Author.Count.{below-more}
 use borrow.Author.Tests.{lt-ltb, le-leb, lt-leb, ne-eqb}
 use Rattle.base.specs.If.{if_then_else_}
-use Rattle.base.specs.Tabulate.{tabulate-ext}
+use Rattle.base.specs.Tabulate.{tabulate, tabulate-ext}
 use Rattle.base.specs.Overwrite.{putAt}
 use Rattle.caps.specs.declared.Edition.{Edition}
 use Rattle.caps.specs.declared.Place.{Place}
@@ -33,23 +32,24 @@ use Rattle.entry.specs.Answer.{Answer, refused, gives, andThen, isGiven, Leaves
 use Rattle.entry.specs.Layout.{sizesOf, sizeOf, tablesOf, beyondOf}
 use Rattle.entry.specs.Reading.{bytesOf, reading, namesPart, partIn, stringIn, booleanIn, numberIn}
 use Rattle.entry.specs.Asking.{opening, asking, askingNames, askingBoolean, askingNumber, askingString}
-use Rattle.entry.specs.Writing.{Handed, stateOf, stringHanded, encode, entryOf}
-use Rattle.entry.specs.Merging.{over, mergedBoolean, mergedNumber, merged, merging}
+use Rattle.entry.specs.Writing.{Handed, stateOf, stringHanded, stringTable, sizesFor, encode, entryOf}
+use Rattle.entry.specs.Merging.{over, mergedBoolean, mergedNumber, mergedString, merged, merging}
 use Rattle.entry.specs.Says.{saysBoolean, saysNumber, saysString}
 use Rattle.entry_laws.specs.Accepted.{Accepted, passed, reading-accepted, names-most}
 use Rattle.entry_laws.specs.Asked.{asking-gives}
+use Rattle.entry_laws.specs.Parts.{length-encode}
 use Rattle.entry_laws.specs.Merge.{given-andThen, edition-counts}
 use Rattle.read.proofs.Laws.{open-file}
 use Rattle.states.specs.Opened.{OpenedAs}
 use Rattle.states.proofs.Laws.{asking-given, opened-accepted, string-inside}
-use Rattle.put.specs.Table.{stringOf, InPools, total}
-use Rattle.put.specs.TableLaws.{in-first, bytes-present, bytes-none, lent-described}
+use Rattle.put.specs.Table.{stringOf, stringAt, tableBytes, total, InPools}
+use Rattle.put.specs.TableLaws.{in-first, bytes-present, bytes-none, length-part, strings-more, table-below, table-total, lent-length, lent-described}
 use Rattle.writer.specs.Handed.{handed}
-use Rattle.writer.specs.File.{Sure, sizesHanded}
+use Rattle.writer.specs.File.{Sure, sizesWith, sizesHanded}
 use Rattle.writer.specs.FileLaws.{length-with}
 use Rattle.merge.specs.declared.fill.HandedNumber.{HandedNumber}
 use Rattle.merge.specs.declared.fill.HandedString.{HandedString}
-use Rattle.merge.specs.Filled.{BothOpened, booleanKind, handedNumber, handedString, BooleansFilled, NumbersFilled, StringFilled, StringsFilled, Ready}
+use Rattle.merge.specs.Filled.{BothOpened, booleanKind, handedNumber, handedString, BooleansFilled, NumbersFilled, StringFilled, StringsFilled, mergedTable, Measured, StringsGiven, Ready}
 use Rattle.merge.specs.Answers.{fitting, Fitted, Merges}
 
 -- ---- opened files
@@ -246,23 +246,52 @@ module _ (a b : List ℕ) (i : ℕ) where
       rw (getD-set-other kinds i j k 0 w, getD-set-other starts i j s 0 w, getD-set-other lengths i j n 0 w) (all j h))
       (rw (getD-set-same kinds i k 0 l, getD-set-same starts i s 0 m, getD-set-same lengths i n 0 r) here)
 
+-- ---- the string table, string by string
+
+-- the bytes of the first i merged strings
+abbrev pub tableOf : (a b : List ℕ) → ℕ → ℕ
+tableOf a b i = length (stringTable (tabulate (λ j. mergedString a b (place j)) i))
+
+module _ {a b : List ℕ} {i k s n : ℕ} (f : StringFilled a b (place i) k s n) where
+  pub table-turn : tableOf a b (i + 1) ≡ tableOf a b i + tableBytes (stateOf k n)
+  table-turn =
+      let g : ℕ → State (List ℕ) = λ j. mergedString a b (place j) in
+      let d : mapState length (g i) ≡ stateOf k n = ap (mapState length) (sym (f .state)) ∙ lent-length (a ++ b) k s n (λ q. f .lent q .0) in
+      ap length (strings-more g i) ∙ length-append (stringTable (tabulate g i)) (stringTable (g i ∷ [])) ∙ ap (λ (m : ℕ). tableOf a b i + m) (length-part (g i) ∙ ap tableBytes d)
+
+  -- a present string lies in the files, so it is no longer than they are
+  pub string-most : {e : Edition} {t u : Tables} → BothOpened e a t b u → tableBytes (stateOf k n) ≤ 2 * fileMost + 1
+  string-most o = elim (ℕ-discrete k 1) [
+    | yes e ↦ (let l = f .lent e .0 in
+        let m : length (a ++ b) ≡ length a + length b = length-append a b in
+        let x = opened-file (o .first) .most in
+        let y = opened-file (o .second) .most in
+        let r = bytes-present k n e in
+        omega arith)
+    | no e ↦ (let r = bytes-none k n e in omega arith)
+  ]
+
+module _ (e : Edition) (a b : List ℕ) where
+  pub table-whole : (i : ℕ) → i ≡ e .strings → tableOf a b i ≡ mergedTable e a b
+  unfolding merged
+  table-whole i h = ap (tableOf a b) h
+
+  pub table-large : (i : ℕ) → i ≤ e .strings → fileMost < tableOf a b i → fileMost < mergedTable e a b
+  unfolding merged
+  table-large i h l = let m = table-below (λ j. mergedString a b (place j)) i (e .strings) h in omega arith
+
 -- ---- what is handed over
 
--- the table of strings of at most m bytes
-pub total-most : (kinds lengths : List ℕ) (m n : ℕ) → ((i : ℕ) → i < n → getD kinds i 0 ≡ 1 → getD lengths i 0 ≤ m) → total kinds lengths n ≤ (m + 1) * n
-unfolding total
-total-most kinds lengths m zero h = omega arith
-total-most kinds lengths m (suc n) h =
-    let ih = total-most kinds lengths m n (λ i l. h i (omega arith)) in
-    rw (mul-suc (m + 1) n)
-    (elim (ℕ-discrete (getD kinds n 0) 1) [
-      | yes e ↦ (let q = h n (omega arith) e in let r = bytes-present (getD kinds n 0) (getD lengths n 0) e in omega arith)
-      | no e ↦ (let r = bytes-none (getD kinds n 0) (getD lengths n 0) e in omega arith)
-    ])
+-- arrays of the most strings have enough for every edition that passes
+pub strings-given : {e : Edition} {a : List ℕ} {t : Tables} → OpenedAs e a t → (kinds starts lengths : List ℕ) → length kinds ≡ stringsMost → length starts ≡ stringsMost
+    → length lengths ≡ stringsMost → StringsGiven e kinds starts lengths
+strings-given {e} o kinds starts lengths l m n =
+    let c = edition-counts e (opened-edition o) .1 .1 in
+    record { kindsGiven = omega arith; startsGiven = omega arith; lengthsGiven = omega arith }
 
 module _ {e : Edition} {a : List ℕ} {t : Tables} {b : List ℕ} {u : Tables} (o : BothOpened e a t b u)
-    (names bools nums values kinds starts lengths : List ℕ) (named : names ≡ bytesOf a (namesPart (sizesOf a)))
-    (strings : StringsFilled (e .strings) a b kinds starts lengths) where
+    (names bools nums values kinds starts lengths : List ℕ) (table : ℕ) (named : names ≡ bytesOf a (namesPart (sizesOf a)))
+    (m : Measured e a b kinds starts lengths table) where
   abbrev filled : Handed
   filled = handed names bools nums values kinds starts lengths (a ++ b)
 
@@ -274,64 +303,67 @@ module _ {e : Edition} {a : List ℕ} {t : Tables} {b : List ℕ} {u : Tables} (
         names = named i;
         booleans = tabulate-ext _ _ (e .booleans) f i;
         numbers = tabulate-ext _ _ (e .numbers) g i;
-        strings = tabulate-ext _ _ (e .strings) (λ j h. strings j h .state) i;
+        strings = tabulate-ext _ _ (e .strings) (λ j h. m .filled j h .state) i;
       }
 
-  -- a string lies in the files, so it is no longer than they are
-  string-most : (i : ℕ) → i < e .strings → getD kinds i 0 ≡ 1 → getD lengths i 0 ≤ 2 * fileMost
-  string-most i h k =
-      let l = strings i h .lent k .0 in
-      let n : length (a ++ b) ≡ length a + length b = length-append a b in
-      let x = opened-file (o .first) .most in
-      let y = opened-file (o .second) .most in
-      omega arith
+  table-total-is : table ≡ total kinds lengths (e .strings)
+  unfolding merged
+  table-total-is =
+      let g : ℕ → State (List ℕ) = stringAt kinds starts lengths (a ++ b) in
+      m .whole
+      ∙ ap (λ (l : List (State (List ℕ))). length (stringTable l)) (sym (tabulate-ext g (λ j. mergedString a b (place j)) (e .strings) (λ j h. m .filled j h .state)))
+      ∙ table-total kinds lengths g (e .strings) (lent-described kinds starts lengths (a ++ b) (e .strings) (λ i h k. m .filled i h .lent k .0))
 
-  pub ready : length bools ≡ booleansMost → length nums ≡ numbersMost → length values ≡ numbersMost → length kinds ≡ stringsMost
-      → length starts ≡ stringsMost → length lengths ≡ stringsMost → Ready e filled a b
-  ready l₁ l₂ l₃ l₄ l₅ l₆ =
-      let m = edition-counts e (opened-edition (o .first)) in
+  pub ready : StringsGiven e kinds starts lengths → length bools ≡ booleansMost → length nums ≡ numbersMost → length values ≡ numbersMost → Ready e filled a b table
+  ready g l₁ l₂ l₃ =
+      let c = edition-counts e (opened-edition (o .first)) in
       let n : length names ≤ 127 = rw named (names-most a (opened-file (o .first))) in
-      let s : total kinds lengths (e .strings) ≤ 8193 * e .strings = total-most kinds lengths 8192 (e .strings) string-most in
+      let s = table-total-is in
+      let w = m .most in
       record {
-        given = record { booleans = omega arith; numberKinds = omega arith; numberValues = omega arith; stringKinds = omega arith; stringStarts = omega arith; stringLengths = omega arith };
-        lent = λ i h. strings i h .lent;
+        given = record { booleans = omega arith; numberKinds = omega arith; numberValues = omega arith; stringKinds = g .kindsGiven; stringStarts = g .startsGiven; stringLengths = g .lengthsGiven };
+        lent = λ i h. m .filled i h .lent;
+        summed = s;
         measured = omega arith;
       }
 
--- ---- measuring it, and putting it if it fits: n is the size by kinds and lengths, c the buffer
+-- ---- measuring it, and putting it if it fits
 
-module _ {e : Edition} {h : Handed} {a b : List ℕ} (r : Ready e h a b) (l : h .lent ≡ a ++ b) (s : Sizes) (z : s ≡ sizesHanded e h) (n : ℕ) (q : n ≡ sizeOf s) (c : List ℕ) where
-  size-is : n ≡ sizeOf (sizesHanded e h)
-  size-is = q ∙ ap sizeOf z
+-- s are the header's sizes
+module _ {e : Edition} {h : Handed} {a b : List ℕ} {table : ℕ} (r : Ready e h a b table) (s : Sizes) (z : s ≡ sizesWith e (h .names) table) where
+  sizes-are : s ≡ sizesHanded e h
+  sizes-are = z ∙ ap (sizesWith e (h .names)) (r .summed)
 
   pub ready-size : sizeOf s < 2 ^ 64
-  ready-size = let m = r .measured in let k = ap sizeOf z in omega arith
+  ready-size = let m = r .measured in let k = ap sizeOf sizes-are in omega arith
 
-  pub ready-sure : n ≤ fileMost → n ≤ length c → Sure c e h a b
-  ready-sure m k = let w = size-is in record { given = r .given; lent = r .lent; most = omega arith; room = omega arith }
+  -- n is the file's size, c the buffer
+  module _ (l : h .lent ≡ a ++ b) (n : ℕ) (q : n ≡ sizeOf s) (c : List ℕ) where
+    pub ready-sure : n ≤ fileMost → n ≤ length c → Sure c s e h a b
+    ready-sure m k = record { sized = sizes-are; given = r .given; lent = r .lent; most = omega arith; room = omega arith }
 
-  abbrev file : List ℕ
-  file = encode (entryOf e h)
+    abbrev file : List ℕ
+    file = encode (entryOf e h)
 
-  length-is : length file ≡ n
-  unfolding entryOf
-  length-is =
-      length-with e h (stringHanded h)
-      (lent-described (h .stringKinds) (h .stringStarts) (h .stringLengths) (h .lent) (e .strings) (λ i m k. rw l (r .lent i m k .0)))
-      ∙ sym size-is
+    length-is : length file ≡ n
+    unfolding entryOf
+    length-is =
+        length-with e h (stringHanded h)
+        (lent-described (h .stringKinds) (h .stringStarts) (h .stringLengths) (h .lent) (e .strings) (λ i m k. rw l (r .lent i m k .0)))
+        ∙ sym (q ∙ ap sizeOf sizes-are)
 
-  pub fit-size : fileMost < n → Fitted file c c (refused 9 [])
-  fit-size m = let t : leb (length file) fileMost ≡ false = rw length-is (lt-leb n fileMost m) in (rw t, rw t)
+    pub fit-size : fileMost < n → Fitted file c c (refused 9 [])
+    fit-size m = let t : leb (length file) fileMost ≡ false = rw length-is (lt-leb n fileMost m) in (rw t, rw t)
 
-  module _ (m : n ≤ fileMost) where
-    fits : leb (length file) fileMost ≡ true
-    fits = rw length-is (le-leb n fileMost m)
+    module _ (m : n ≤ fileMost) where
+      fits : leb (length file) fileMost ≡ true
+      fits = rw length-is (le-leb n fileMost m)
 
-    pub fit-room : length c < n → Fitted file c c (refused 8 (n ∷ []))
-    fit-room k = let t : leb (length file) (length c) ≡ false = rw length-is (lt-leb n (length c) k) in (rw (fits, t, length-is), rw (fits, t))
+      pub fit-room : length c < n → Fitted file c c (refused 8 (n ∷ []))
+      fit-room k = let t : leb (length file) (length c) ≡ false = rw length-is (lt-leb n (length c) k) in (rw (fits, t, length-is), rw (fits, t))
 
-    pub fit-file : n ≤ length c → (d : List ℕ) → d ≡ putAt c 0 file → Fitted file c d (gives n)
-    fit-file k d p = let t : leb (length file) (length c) ≡ true = rw length-is (le-leb n (length c) k) in (rw (fits, t, length-is), rw (fits, t, p))
+      pub fit-file : n ≤ length c → (d : List ℕ) → d ≡ putAt c 0 file → Fitted file c d (gives n)
+      fit-file k d p = let t : leb (length file) (length c) ≡ true = rw length-is (le-leb n (length c) k) in (rw (fits, t, length-is), rw (fits, t, p))
 
 -- ---- the answers of a merge, in their order
 
@@ -361,3 +393,11 @@ module _ (e : Edition) (x y b : List ℕ) where
 
     pub merge-fitted : (f c : List ℕ) (says : Answer ℕ) → f ≡ encode (merged e x y) → Fitted f b c says → Merges e x y b c says
     merge-fitted f c says q w = subst (λ (z : Answer (List ℕ)). Leaves z b c says) (sym merging-opened) (subst (λ (g : List ℕ). Fitted g b c says) q w)
+
+    -- the file is at least as long as its string table
+    pub merge-large : fileMost < mergedTable e x y → Merges e x y b b (refused 9 [])
+    unfolding sizesFor
+    merge-large m =
+        let l = length-encode (merged e x y) in
+        let t : leb (length (encode (merged e x y))) fileMost ≡ false = lt-leb (length (encode (merged e x y))) fileMost (omega arith) in
+        rw merging-opened (rw t, rw t)

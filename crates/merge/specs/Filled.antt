@@ -3,8 +3,8 @@
 -- Assumes nothing.
 use mathlib.Core.Path.{_≡_}
 use mathlib.Core.List.{List, _++_}
-use Prim.Native.Nat.{ℕ, _<_, _^_}
-use lib.ListN.{getD}
+use Prim.Native.Nat.{ℕ, _≤_, _<_, _^_}
+use lib.ListN.{length, getD}
 use Rattle.caps.specs.declared.Edition.{Edition}
 use Rattle.caps.specs.declared.Place.{Place}
 use Rattle.caps.specs.Edition.{place}
@@ -15,14 +15,17 @@ use Rattle.entry.specs.declared.NumberState.{NumberState}
 use Rattle.entry.specs.declared.NumberState.the-variants as N
 use Rattle.entry.specs.declared.StringState.{StringState}
 use Rattle.entry.specs.declared.StringState.the-variants as S
+use Rattle.entry.specs.Limits.{fileMost}
 use Rattle.entry.specs.Layout.{sizeOf}
-use Rattle.entry.specs.Writing.{Handed, stateOf}
-use Rattle.entry.specs.Merging.{mergedBoolean, mergedNumber, mergedString}
-use Rattle.put.specs.Table.{stringOf, InPools, AllInPools}
+use Rattle.entry.specs.Writing.{Handed, stateOf, stringTable}
+use Rattle.entry.specs.Merging.{mergedBoolean, mergedNumber, mergedString, merged}
+use Rattle.put.specs.Table.{stringOf, total, InPools, AllInPools}
 use Rattle.states.specs.Opened.{OpenedAs}
 use Rattle.writer.specs.File.{Given, sizesHanded}
 use Rattle.merge.specs.declared.fill.HandedNumber.{HandedNumber}
 use Rattle.merge.specs.declared.fill.HandedString.{HandedString}
+use Rattle.merge.specs.declared.fill.TableSize.{TableSize}
+use Rattle.merge.specs.declared.fill.TableSize.the-variants as T
 
 -- both files are opened in the edition
 pub record BothOpened (e : Edition) (a : List ℕ) (t : Tables) (b : List ℕ) (u : Tables) : Type 0 where
@@ -65,9 +68,33 @@ pub record StringFilled (a b : List ℕ) (p : Place) (kind start size : ℕ) : T
 abbrev pub StringsFilled : ℕ → (a b kinds starts lengths : List ℕ) → Type 0
 StringsFilled n a b kinds starts lengths = (i : ℕ) → i < n → StringFilled a b (place i) (getD kinds i 0) (getD starts i 0) (getD lengths i 0)
 
--- ---- what is handed over can be measured and put: room and the file's most bytes are still to be tested
+-- ---- the string table of the merged entry
 
-pub record Ready (e : Edition) (h : Handed) (first second : List ℕ) : Type 0 where
+-- its length
+abbrev pub mergedTable : Edition → (a b : List ℕ) → ℕ
+mergedTable e a b = length (stringTable (merged e a b .strings))
+
+-- the strings are filled, and their table of so many bytes is no longer than a file may be
+pub record Measured (e : Edition) (a b kinds starts lengths : List ℕ) (table : ℕ) : Type 0 where
+  pub filled : StringsFilled (e .strings) a b kinds starts lengths
+  pub whole : table ≡ mergedTable e a b
+  pub most : table ≤ fileMost
+
+-- what filling the strings answers: where their table alone is too large, the strings behind are not filled
+abbrev pub StringsMeasured : Edition → (a b kinds starts lengths : List ℕ) → TableSize → Type 0
+StringsMeasured e a b kinds starts lengths (T.Bytes n) = Measured e a b kinds starts lengths n
+StringsMeasured e a b kinds starts lengths T.TooLarge = fileMost < mergedTable e a b
+
+-- as many strings as the edition counts are given
+pub record StringsGiven (e : Edition) (kinds starts lengths : List ℕ) : Type 0 where
+  pub kindsGiven : e .strings ≤ length kinds
+  pub startsGiven : e .strings ≤ length starts
+  pub lengthsGiven : e .strings ≤ length lengths
+
+-- ---- what is handed over can be put, and its string table has so many bytes: room and the file's most bytes are still to be tested
+
+pub record Ready (e : Edition) (h : Handed) (first second : List ℕ) (table : ℕ) : Type 0 where
   pub given : Given e h
   pub lent : AllInPools (h .stringKinds) (h .stringStarts) (h .stringLengths) first second (e .strings)
+  pub summed : table ≡ total (h .stringKinds) (h .stringLengths) (e .strings)
   pub measured : sizeOf (sizesHanded e h) < 2 ^ 64

@@ -4,12 +4,13 @@ ghost use Prim.Native.Nat.{_<_, _≤_};
 ghost use lib.ListN.{length};
 ghost use Rattle.entry.specs.Writing.{stateOf};
 ghost use Rattle.entry.specs.Merging.{mergedBoolean, mergedNumber};
-ghost use Rattle.merge.specs.Filled.{booleanKind, handedNumber, handedString, BothOpened, BooleansFilled, NumbersFilled, StringFilled, StringsFilled};
+ghost use Rattle.merge.specs.Filled.{booleanKind, handedNumber, handedString, BothOpened, BooleansFilled, NumbersFilled, StringFilled, StringsMeasured, StringsGiven};
 use caps::Edition;
 use caps::Place;
 use entry::ABSENT;
 use entry::BooleanState;
 use entry::CANCELLED;
+use entry::FILE_MOST;
 use entry::NumberState;
 use entry::PRESENT;
 use entry::StringState;
@@ -26,6 +27,12 @@ pub struct HandedString {
     pub kind: u8,
     pub start: usize,
     pub length: usize,
+}
+
+// The size of the string table; too large where it alone is longer than a file may be.
+pub enum TableSize {
+    Bytes(usize),
+    TooLarge,
 }
 
 // The kind of a boolean's state. A refused place counts as absent.
@@ -193,7 +200,7 @@ pub fn fill_numbers(
     }
 }
 
-// The strings.
+// The strings, until the string table is longer than a file may be.
 pub fn fill_strings(
     kinds: &mut [u8],
     starts: &mut [usize],
@@ -203,16 +210,22 @@ pub fn fill_strings(
     second: &[u8],
     u: Tables,
     edition: Edition,
-)
-    requires { ⌜ BothOpened edition (now first) t (now second) u × ((edition .strings ≤ length (now kinds)) × ((edition .strings ≤ length (now starts)) × (edition .strings ≤ length (now lengths)))) ⌝ }
-    ensures { λ _. ⌜ StringsFilled (edition .strings) (now (first .entry)) (now (second .entry)) (now (kinds .exit)) (now (starts .exit)) (now (lengths .exit)) ⌝ }
+) -> TableSize
+    requires { ⌜ BothOpened edition (now first) t (now second) u × StringsGiven edition (now kinds) (now starts) (now lengths) ⌝ }
+    ensures { λ r. ⌜ StringsMeasured edition (now (first .entry)) (now (second .entry)) (now (kinds .exit)) (now (starts .exit)) (now (lengths .exit)) r ⌝ }
 {
+    let mut table = 0;
     let mut i = 0;
     while i < edition.strings {
         let s = string_over(first, t, second, u, edition, Place(i));
         kinds[i] = s.kind;
         starts[i] = s.start;
         lengths[i] = s.length;
+        table += put::bytes_in_table(s.kind, s.length);
+        if FILE_MOST < table {
+            return TableSize::TooLarge;
+        }
         i += 1;
     }
+    TableSize::Bytes(table)
 }

@@ -9,7 +9,7 @@ ghost use Rattle.entry.specs.Merging.{merging};
 ghost use Rattle.entry.specs.Says.{saysMerged};
 ghost use Rattle.states.specs.Opened.{OpenedAs};
 ghost use Rattle.writer.specs.Handed.{handed};
-ghost use Rattle.merge.specs.Filled.{BothOpened, Ready};
+ghost use Rattle.merge.specs.Filled.{BothOpened, Measured, StringsGiven, Ready};
 ghost use Rattle.merge.specs.Answers.{Fitted, Merges};
 use caps::BOOLEANS_MOST;
 use caps::Edition;
@@ -20,10 +20,14 @@ use entry::FileRefusal;
 use entry::Judged;
 use entry::Merged;
 use entry::Tables;
+use fill::TableSize;
 
 mod fill;
 
-// Writes what is handed over, if the file fits. Its strings stand in the two files.
+// A string's start and length before it is filled, which nobody reads. Not 0, so that vector instructions store it and no memset.
+const UNFILLED: usize = 1;
+
+// Writes what is handed over, if the file fits. Its strings stand in the two files, and their table has so many bytes.
 fn write_fitting(
     edition: Edition,
     names: &[u8],
@@ -35,17 +39,14 @@ fn write_fitting(
     string_lengths: &[usize],
     first: &[u8],
     second: &[u8],
+    table: usize,
     buffer: &mut [u8],
 ) -> Merged
-    requires { ⌜ Ready edition (handed (now names) (now «boolean_kinds») (now «number_kinds») (now «number_values») (now «string_kinds») (now «string_starts») (now «string_lengths») (now first ++ now second)) (now first) (now second) ⌝ }
+    requires { ⌜ Ready edition (handed (now names) (now «boolean_kinds») (now «number_kinds») (now «number_values») (now «string_kinds») (now «string_starts») (now «string_lengths») (now first ++ now second)) (now first) (now second) table ⌝ }
     ensures { λ r. ⌜ Fitted (encode (entryOf edition (handed (now (names .entry)) (now («boolean_kinds» .entry)) (now («number_kinds» .entry)) (now («number_values» .entry)) (now («string_kinds» .entry)) (now («string_starts» .entry)) (now («string_lengths» .entry)) (now (first .entry) ++ now (second .entry))))) (now (buffer .entry)) (now (buffer .exit)) (saysMerged r) ⌝ }
 {
-    let size = writer::file::file_size(writer::file::sizes(
-        edition,
-        names,
-        string_kinds,
-        string_lengths,
-    ));
+    let s = writer::file::sizes_with(edition, names, table);
+    let size = writer::file::file_size(s);
     if FILE_MOST < size {
         return Merged::Size;
     }
@@ -54,6 +55,7 @@ fn write_fitting(
     }
     writer::file::write_sure(
         buffer,
+        s,
         edition,
         names,
         boolean_kinds,
@@ -68,38 +70,29 @@ fn write_fitting(
     Merged::File(size)
 }
 
-// Merges two files that are opened in the edition: the names are the first file's.
-fn merge_opened(
+// Merges two files that are opened in the edition, whose strings are filled: the names are the first file's.
+fn merge_filled(
     first: &[u8],
     t: Tables,
     second: &[u8],
     u: Tables,
     edition: Edition,
+    string_kinds: &[u8],
+    string_starts: &[usize],
+    string_lengths: &[usize],
+    table: usize,
     buffer: &mut [u8],
 ) -> Merged
-    requires { ⌜ BothOpened edition (now first) t (now second) u ⌝ }
+    requires { ⌜ BothOpened edition (now first) t (now second) u × (Measured edition (now first) (now second) (now «string_kinds») (now «string_starts») (now «string_lengths») table × StringsGiven edition (now «string_kinds») (now «string_starts») (now «string_lengths»)) ⌝ }
     ensures { λ r. ⌜ Merges edition (now (first .entry)) (now (second .entry)) (now (buffer .entry)) (now (buffer .exit)) (saysMerged r) ⌝ }
 {
     let mut boolean_kinds = [0u8; BOOLEANS_MOST];
     let mut number_kinds = [0u8; NUMBERS_MOST];
     let mut number_values = [0u32; NUMBERS_MOST];
-    let mut string_kinds = [0u8; STRINGS_MOST];
-    let mut string_starts = [0usize; STRINGS_MOST];
-    let mut string_lengths = [0usize; STRINGS_MOST];
     fill::fill_booleans(&mut boolean_kinds, first, t, second, u, edition);
     fill::fill_numbers(
         &mut number_kinds,
         &mut number_values,
-        first,
-        t,
-        second,
-        u,
-        edition,
-    );
-    fill::fill_strings(
-        &mut string_kinds,
-        &mut string_starts,
-        &mut string_lengths,
         first,
         t,
         second,
@@ -115,13 +108,55 @@ fn merge_opened(
         &boolean_kinds,
         &number_kinds,
         &number_values,
-        &string_kinds,
-        &string_starts,
-        &string_lengths,
+        string_kinds,
+        string_starts,
+        string_lengths,
         first,
         second,
+        table,
         buffer,
     )
+}
+
+// Merges two files that are opened in the edition. Both are accepted, so a string table that is too large is refused at once.
+fn merge_opened(
+    first: &[u8],
+    t: Tables,
+    second: &[u8],
+    u: Tables,
+    edition: Edition,
+    buffer: &mut [u8],
+) -> Merged
+    requires { ⌜ BothOpened edition (now first) t (now second) u ⌝ }
+    ensures { λ r. ⌜ Merges edition (now (first .entry)) (now (second .entry)) (now (buffer .entry)) (now (buffer .exit)) (saysMerged r) ⌝ }
+{
+    let mut kinds = [0u8; STRINGS_MOST];
+    let mut starts = [UNFILLED; STRINGS_MOST];
+    let mut lengths = [UNFILLED; STRINGS_MOST];
+    match fill::fill_strings(
+        &mut kinds,
+        &mut starts,
+        &mut lengths,
+        first,
+        t,
+        second,
+        u,
+        edition,
+    ) {
+        TableSize::Bytes(table) => merge_filled(
+            first,
+            t,
+            second,
+            u,
+            edition,
+            &kinds,
+            &starts,
+            &lengths,
+            table,
+            buffer,
+        ),
+        TableSize::TooLarge => Merged::Size,
+    }
 }
 
 // Merges a file that is opened in the edition over one that is still to be judged.

@@ -70,7 +70,7 @@ pub part-present : (k : ℕ) (s : List ℕ) → k ≡ 1 → stringTable (stateOf
 unfolding stringTable
 part-present k s e = ap (λ (t : State (List ℕ)). stringTable (t ∷ [])) (state-present k s e)
 
-length-part : (s : State (List ℕ)) → length (stringTable (s ∷ [])) ≡ tableBytes (mapState length s)
+pub length-part : (s : State (List ℕ)) → length (stringTable (s ∷ [])) ≡ tableBytes (mapState length s)
 unfolding stringTable tableBytes
 length-part absent = refl
 length-part cancelled = refl
@@ -82,18 +82,22 @@ pub total-more : (kinds lengths : List ℕ) (n : ℕ) → total kinds lengths (n
 unfolding total
 total-more kinds lengths n = let e : n + 1 ≡ suc n = omega arith in rw e
 
-total-le : (kinds lengths : List ℕ) (i k : ℕ) → total kinds lengths i ≤ total kinds lengths (i + k)
-total-le kinds lengths i zero = let e : i + 0 ≡ i = omega arith in rw e (omega arith)
-total-le kinds lengths i (suc k) =
-    let e : i + suc k ≡ i + k + 1 = omega arith in
-    let ih = total-le kinds lengths i k in
-    rw (e, total-more kinds lengths (i + k)) (omega arith)
+-- what no place lowers is lowered by no number of places
+never-lower : (f : ℕ → ℕ) → ((i : ℕ) → f i ≤ f (i + 1)) → (i n : ℕ) → i ≤ n → f i ≤ f n
+never-lower f up i n h = let e : i + (n - i) ≡ n = omega arith in rw e at (by-steps (n - i))
+  where
+    by-steps : (k : ℕ) → f i ≤ f (i + k)
+    by-steps zero = let e : i + 0 ≡ i = omega arith in rw e (omega arith)
+    by-steps (suc k) =
+        let e : i + suc k ≡ i + k + 1 = omega arith in
+        let ih = by-steps k in
+        let s = up (i + k) in
+        rw e (omega arith)
 
 -- the strings up to a place take no more than all
 pub total-below : (kinds lengths : List ℕ) (i n : ℕ) → i < n → total kinds lengths i + tableBytes (lengthAt kinds lengths i) ≤ total kinds lengths n
 total-below kinds lengths i n h =
-    let e : i + 1 + (n - (i + 1)) ≡ n = omega arith in
-    let l : total kinds lengths (i + 1) ≤ total kinds lengths n = rw e at (total-le kinds lengths (i + 1) (n - (i + 1))) in
+    let l = never-lower (total kinds lengths) (λ j. let t = total-more kinds lengths j in omega arith) (i + 1) n (omega arith) in
     let t = total-more kinds lengths i in
     omega arith
 
@@ -121,6 +125,10 @@ table-more (present t ∷ xs) s = rw (table-more xs s) (simp append-assoc)
 
 pub strings-more : (g : ℕ → State (List ℕ)) (n : ℕ) → stringTable (tabulate g (n + 1)) ≡ stringTable (tabulate g n) ++ stringTable (g n ∷ [])
 strings-more g n = ap stringTable (tabulate-more g n) ∙ table-more (tabulate g n) (g n)
+
+-- the table of the first strings is no longer than that of all
+pub table-below : (g : ℕ → State (List ℕ)) (i n : ℕ) → i ≤ n → length (stringTable (tabulate g i)) ≤ length (stringTable (tabulate g n))
+table-below g = never-lower (λ k. length (stringTable (tabulate g k))) (λ k. rw (strings-more g k, length-append (stringTable (tabulate g k)) (stringTable (g k ∷ []))) (omega arith))
 
 module _ (kinds lengths : List ℕ) (g : ℕ → State (List ℕ)) where
   pub part-length : (i n : ℕ) → Described kinds lengths g n → i < n → length (stringTable (g i ∷ [])) ≡ tableBytes (lengthAt kinds lengths i)
@@ -152,16 +160,16 @@ module _ (kinds lengths : List ℕ) (g : ℕ → State (List ℕ)) where
       ∙ sym (tabulate-more (slotAt kinds lengths) n)
       ∙ ap (slotsOf kinds lengths) (sym e)
 
--- strings that lie in what is lent are of their kinds and lengths
+-- a string that lies in what is lent is of its kind and length
+pub lent-length : (lent : List ℕ) (k a m : ℕ) → (k ≡ 1 → a + m ≤ length lent) → mapState length (stringOf k a m lent) ≡ stateOf k m
+lent-length lent k a m q = map-stateOf length k (take m (drop a lent)) ∙ elim (ℕ-discrete k 1) [
+  | yes e ↦ (let r : a + m ≤ length lent = q e in ap (stateOf k) (length-take-le m (drop a lent) (rw (length-drop a lent) (omega arith))))
+  | no e ↦ state-other k (length (take m (drop a lent))) m e
+]
+
 pub lent-described : (kinds starts lengths lent : List ℕ) (n : ℕ) → ((i : ℕ) → i < n → getD kinds i 0 ≡ 1 → getD starts i 0 + getD lengths i 0 ≤ length lent)
     → Described kinds lengths (stringAt kinds starts lengths lent) n
-lent-described kinds starts lengths lent n l i h = by-kind (getD kinds i 0) (getD starts i 0) (getD lengths i 0) (l i h)
-  where
-    by-kind : (k a m : ℕ) → (k ≡ 1 → a + m ≤ length lent) → mapState length (stringOf k a m lent) ≡ stateOf k m
-    by-kind k a m q = map-stateOf length k (take m (drop a lent)) ∙ elim (ℕ-discrete k 1) [
-      | yes e ↦ (let r : a + m ≤ length lent = q e in ap (stateOf k) (length-take-le m (drop a lent) (rw (length-drop a lent) (omega arith))))
-      | no e ↦ state-other k (length (take m (drop a lent))) m e
-    ]
+lent-described kinds starts lengths lent n l i h = lent-length lent (getD kinds i 0) (getD starts i 0) (getD lengths i 0) (l i h)
 
 -- ---- the turns of the loops that put: b holds the first i from at on
 

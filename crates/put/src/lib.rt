@@ -167,8 +167,8 @@ pub fn put_slots(b: &mut [u8], at: usize, kinds: &[u8], lengths: &[usize], n: us
     }
 }
 
-// A string's part of the table, a present one's content and its NUL. The content stands in one of two lent slices; start counts
-// through both.
+// A string's part of the table, a present one's content and its NUL; gives the place behind it. The content stands in one of two
+// lent slices; start counts through both.
 pub fn put_content(
     b: &mut [u8],
     at: usize,
@@ -177,22 +177,23 @@ pub fn put_content(
     size: usize,
     first: &[u8],
     second: &[u8],
-)
+) -> usize
     requires { ⌜ (at + tableBytes (stateOf kind size) ≤ length (now b)) × (kind ≡ 1 → InPools start size (now first) (now second)) ⌝ }
-    ensures { λ _. ⌜ now (b .exit) ≡ putAt (now (b .entry)) at (stringTable (stringOf kind start size (now (first .entry) ++ now (second .entry)) ∷ [])) ⌝ }
+    ensures { λ r. ⌜ (now (b .exit) ≡ putAt (now (b .entry)) at (stringTable (stringOf kind start size (now (first .entry) ++ now (second .entry)) ∷ []))) × (r ≡ at + tableBytes (stateOf kind size)) ⌝ }
 {
     if kind != PRESENT {
-        return;
+        return at;
     }
     let skipped = first.len();
     if start < skipped {
         let end = start + size;
         put_string(b, at, &first[start..end]);
-        return;
+        return at + size + 1;
     }
     let from = start - skipped;
     let end = from + size;
     put_string(b, at, &second[from..end]);
+    at + size + 1
 }
 
 // The string table of the first n strings.
@@ -212,10 +213,7 @@ pub fn put_table(
     let mut p = at;
     let mut i = 0;
     while i < n {
-        let kind = kinds[i];
-        let size = lengths[i];
-        put_content(b, p, kind, starts[i], size, first, second);
-        p += bytes_in_table(kind, size);
+        p = put_content(b, p, kinds[i], starts[i], lengths[i], first, second);
         i += 1;
     }
 }

@@ -16,6 +16,7 @@ use Rattle.base.specs.Scan.{every, every-at}
 use Rattle.base.specs.Overwrite.{putAt}
 use Rattle.caps.specs.declared.Edition.{Edition}
 use Rattle.caps.specs.Edition.{booleansMost, numbersMost, stringsMost, okEdition}
+use Rattle.entry.specs.declared.Sizes.{Sizes}
 use Rattle.entry.specs.Limits.{fileMost, shortMost, contentMost}
 use Rattle.entry.specs.Layout.{sizeOf}
 use Rattle.entry.specs.Answer.{refused, gives}
@@ -120,10 +121,11 @@ module _ (e : Edition) (h : Handed) (j : Judged e h) where
       omega arith
 
   -- the lent bytes are the first slice, and the second is empty
-  pub sure : (b : List ℕ) → sizeOf (sizesHanded e h) ≤ fileMost → sizeOf (sizesHanded e h) ≤ length b → Sure b e (withLent h (h .lent ++ [])) (h .lent) []
-  sure b m r =
+  pub sure : (b : List ℕ) (s : Sizes) → s ≡ sizesHanded e h → sizeOf s ≤ fileMost → sizeOf s ≤ length b → Sure b s e (withLent h (h .lent ++ [])) (h .lent) []
+  sure b s z m r =
       let k = enough e h (j .enough) in
       record {
+        sized = z;
         given =
             record {
               booleans = k .booleans;

@@ -15,16 +15,14 @@ use Rattle.entry.specs.Reading.{Entry}
 use Rattle.entry.specs.Writing.{Handed, header, padding, numberCode, offsetCode}
 use Rattle.put.specs.Table.{booleansOf, numbersOf, slotsOf, total, AllInPools}
 
+-- the header's sizes, with a string table of so many bytes
+abbrev pub sizesWith : Edition → (names : List ℕ) → (table : ℕ) → Sizes
+sizesWith e names table =
+    record { names = length names + 1; booleans = e .booleans; numbers = e .numbers; strings = e .strings; table = table }
+
 -- the header's sizes, from kinds and lengths alone
 abbrev pub sizesHanded : Edition → Handed → Sizes
-sizesHanded e h =
-    record {
-      names = length (h .names) + 1;
-      booleans = e .booleans;
-      numbers = e .numbers;
-      strings = e .strings;
-      table = total (h .stringKinds) (h .stringLengths) (e .strings);
-    }
+sizesHanded e h = sizesWith e (h .names) (total (h .stringKinds) (h .stringLengths) (e .strings))
 
 -- the entry handed over, with the strings g in place of those in the lent bytes
 abbrev pub entryWith : Edition → Handed → (ℕ → State (List ℕ)) → Entry
@@ -85,10 +83,11 @@ pub record Given (e : Edition) (h : Handed) : Type 0 where
   pub stringStarts : e .strings ≤ length (h .stringStarts)
   pub stringLengths : e .strings ≤ length (h .stringLengths)
 
--- the states are given, the strings lie in the two lent slices, and the file is no longer than a file may be and than the buffer;
--- contents may have any length
-pub record Sure (b : List ℕ) (e : Edition) (h : Handed) (first second : List ℕ) : Type 0 where
+-- s are the file's sizes, the states are given, the strings lie in the two lent slices, and the file is no longer than a file may
+-- be and than the buffer; contents may have any length
+pub record Sure (b : List ℕ) (s : Sizes) (e : Edition) (h : Handed) (first second : List ℕ) : Type 0 where
+  pub sized : s ≡ sizesHanded e h
   pub given : Given e h
   pub lent : AllInPools (h .stringKinds) (h .stringStarts) (h .stringLengths) first second (e .strings)
-  pub most : sizeOf (sizesHanded e h) ≤ fileMost
-  pub room : sizeOf (sizesHanded e h) ≤ length b
+  pub most : sizeOf s ≤ fileMost
+  pub room : sizeOf s ≤ length b

@@ -12,6 +12,7 @@ use Rattle.word.specs.WordLaws.{length-words}
 use Rattle.caps.specs.declared.Edition.{Edition}
 use Rattle.entry.specs.declared.Sizes.{Sizes}
 use Rattle.entry.specs.declared.Offset.{Offset}
+use Rattle.entry.specs.Limits.{fileMost}
 use Rattle.entry.specs.State.{State, booleanCode}
 use Rattle.entry.specs.Layout.{padOf, booleansAt, numbersAt, tableAt, sizeOf}
 use Rattle.entry.specs.Writing.{Handed, header, padding, numberCode, offsetCode, stringTable, sizesFor, encode}
@@ -135,12 +136,12 @@ file-put e h g d b₀ b₁ b₂ {q} {s} u r w e₁ e₂ =
     e₂ ∙ put-run b₀ b₁ 0 q (front z h) (stringTable (tabulate g (e .strings))) (encode (entryWith e h g)) f₁ (omega arith) (encode-with e h g d) (omega arith)
 
 -- where all is sure, the front fits
-pub front-fits : (b : List ℕ) (e : Edition) (h : Handed) (first second : List ℕ) (s : Sizes) → Sure b e h first second → s ≡ sizesHanded e h
+pub front-fits : (b : List ℕ) (s : Sizes) (e : Edition) (h : Handed) (first second : List ℕ) → Sure b s e h first second
     → FrontFits b s (frontHanded (h .names) (h .booleanKinds) (h .numberKinds) (h .numberValues) (h .stringKinds) (h .stringLengths))
-front-fits b e h first second s f u =
+front-fits b s e h first second f =
     let k = f .given in
-    subst (λ (z : Sizes). FrontFits b z (frontHanded (h .names) (h .booleanKinds) (h .numberKinds) (h .numberValues) (h .stringKinds) (h .stringLengths))) (sym u)
-    (record {
+    subst (λ (z : Sizes). sizeOf z ≤ fileMost → sizeOf z ≤ length b → FrontFits b z (frontHanded (h .names) (h .booleanKinds) (h .numberKinds) (h .numberValues) (h .stringKinds) (h .stringLengths))) (sym (f .sized))
+    (λ m r. record {
       named = refl;
       booleans = k .booleans;
       numberKinds = k .numberKinds;
@@ -148,6 +149,7 @@ front-fits b e h first second s f u =
       stringKinds = k .stringKinds;
       stringLengths = k .stringLengths;
       table = refl;
-      most = f .most;
-      room = f .room;
+      most = m;
+      room = r;
     })
+    (f .most) (f .room)

@@ -8,17 +8,15 @@ ghost use Rattle.entry.specs.Layout.{sizeOf, numbersAt, tableAt};
 ghost use Rattle.entry.specs.Writing.{encode, entryOf};
 ghost use Rattle.put.specs.Table.{total};
 ghost use Rattle.writer.specs.Handed.{handed, frontHanded};
-ghost use Rattle.writer.specs.File.{sizesHanded, head, slots, front, HeadFits, SlotsFit, FrontFits, Sure};
+ghost use Rattle.writer.specs.File.{sizesWith, sizesHanded, head, slots, front, HeadFits, SlotsFit, FrontFits, Sure};
 use caps::Edition;
 use entry::HEADER_SIZE;
 use entry::Sizes;
 
-// The header's sizes for what is handed over.
-pub fn sizes(e: Edition, names: &[u8], string_kinds: &[u8], string_lengths: &[usize]) -> Sizes
-    requires { ⌜ (e .strings ≤ length (now «string_kinds»)) × ((e .strings ≤ length (now «string_lengths»)) × (total (now «string_kinds») (now «string_lengths») (e .strings) < 2 ^ 64)) ⌝ }
-    ensures { λ r. ⌜ r ≡ sizesHanded e (frontHanded (now (names .entry)) [] [] [] (now («string_kinds» .entry)) (now («string_lengths» .entry))) ⌝ }
+// The header's sizes, with a string table of so many bytes.
+pub fn sizes_with(e: Edition, names: &[u8], table: usize) -> Sizes
+    ensures { λ r. ⌜ r ≡ sizesWith e (now (names .entry)) table ⌝ }
 {
-    let table = put::table_size(string_kinds, string_lengths, e.strings);
     Sizes {
         names: names.len() + 1,
         booleans: e.booleans,
@@ -26,6 +24,15 @@ pub fn sizes(e: Edition, names: &[u8], string_kinds: &[u8], string_lengths: &[us
         strings: e.strings,
         table,
     }
+}
+
+// The header's sizes for what is handed over.
+pub fn sizes(e: Edition, names: &[u8], string_kinds: &[u8], string_lengths: &[usize]) -> Sizes
+    requires { ⌜ (e .strings ≤ length (now «string_kinds»)) × ((e .strings ≤ length (now «string_lengths»)) × (total (now «string_kinds») (now «string_lengths») (e .strings) < 2 ^ 64)) ⌝ }
+    ensures { λ r. ⌜ r ≡ sizesHanded e (frontHanded (now (names .entry)) [] [] [] (now («string_kinds» .entry)) (now («string_lengths» .entry))) ⌝ }
+{
+    let table = put::table_size(string_kinds, string_lengths, e.strings);
+    sizes_with(e, names, table)
 }
 
 // Where the numbers' slots start.
@@ -113,9 +120,10 @@ pub fn put_front(
     );
 }
 
-// The file of what is handed over, whose strings stand in two lent slices.
+// The file of what is handed over, whose sizes are s and whose strings stand in two lent slices.
 pub fn write_sure(
     b: &mut [u8],
+    s: Sizes,
     e: Edition,
     names: &[u8],
     boolean_kinds: &[u8],
@@ -127,10 +135,9 @@ pub fn write_sure(
     first: &[u8],
     second: &[u8],
 )
-    requires { ⌜ Sure (now b) e (handed (now names) (now «boolean_kinds») (now «number_kinds») (now «number_values») (now «string_kinds») (now «string_starts») (now «string_lengths») (now first ++ now second)) (now first) (now second) ⌝ }
+    requires { ⌜ Sure (now b) s e (handed (now names) (now «boolean_kinds») (now «number_kinds») (now «number_values») (now «string_kinds») (now «string_starts») (now «string_lengths») (now first ++ now second)) (now first) (now second) ⌝ }
     ensures { λ _. ⌜ now (b .exit) ≡ putAt (now (b .entry)) 0 (encode (entryOf e (handed (now (names .entry)) (now («boolean_kinds» .entry)) (now («number_kinds» .entry)) (now («number_values» .entry)) (now («string_kinds» .entry)) (now («string_starts» .entry)) (now («string_lengths» .entry)) (now (first .entry) ++ now (second .entry))))) ⌝ }
 {
-    let s = sizes(e, names, string_kinds, string_lengths);
     put_front(
         b,
         s,

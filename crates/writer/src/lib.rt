@@ -43,7 +43,8 @@ fn write_lent(
     ) {
         return Written::Limit;
     }
-    let size = file::file_size(file::sizes(edition, names, string_kinds, string_lengths));
+    let s = file::sizes(edition, names, string_kinds, string_lengths);
+    let size = file::file_size(s);
     if FILE_MOST < size {
         return Written::Size;
     }
@@ -52,6 +53,7 @@ fn write_lent(
     }
     file::write_sure(
         buffer,
+        s,
         edition,
         names,
         boolean_kinds,

@@ -25,20 +25,20 @@ loop-holds : tie.Need-loop-holds Inv-loop μ-loop
 unfolding tabulate stringTable total
 loop-holds c = (search needs, refl, search needs, sym (put-nil _ _))
 
-shared-slice-read-kind : tie.Need-shared-slice-read-kind Inv-loop μ-loop
-shared-slice-read-kind c = search needs
-
-mul-size : tie.Need-mul-size Inv-loop μ-loop
-mul-size c = search needs
-
-shared-slice-read-size : tie.Need-shared-slice-read-size Inv-loop μ-loop
-shared-slice-read-size c = search needs
+shared-slice-read-put-content : tie.Need-shared-slice-read-put-content Inv-loop μ-loop
+shared-slice-read-put-content c = search needs
 
 mul-put-content : tie.Need-mul-put-content Inv-loop μ-loop
 mul-put-content c = search needs
 
-shared-slice-read-put-content : tie.Need-shared-slice-read-put-content Inv-loop μ-loop
-shared-slice-read-put-content c = search needs
+shared-slice-read-put-content-2 : tie.Need-shared-slice-read-put-content-2 Inv-loop μ-loop
+shared-slice-read-put-content-2 c = search needs
+
+mul-put-content-2 : tie.Need-mul-put-content-2 Inv-loop μ-loop
+mul-put-content-2 c = search needs
+
+shared-slice-read-put-content-3 : tie.Need-shared-slice-read-put-content-3 Inv-loop μ-loop
+shared-slice-read-put-content-3 c = search needs
 
 put-content-requires : tie.Need-put-content-requires Inv-loop μ-loop
 put-content-requires c κs =
@@ -46,23 +46,6 @@ put-content-requires c κs =
     let f = c .before .before .before .before .before .before .before .before .before .before .before .before .pre in
     let h = total-below (now (a .kinds)) (now (a .lengths)) (c .before .before .before .before .before .loop .i) (a .n) (c .before .before .before .before .loop-test .taken) in
     (omega arith, (λ e. f .lent (c .before .before .before .before .before .loop .i) (c .before .before .before .before .loop-test .taken) e))
-
-bytes-in-table-requires : tie.Need-bytes-in-table-requires Inv-loop μ-loop
-bytes-in-table-requires c κs =
-    let a = c .before .before .before .before .before .before .before .before .before .before .before .before .before .before .before .args in
-    let f = c .before .before .before .before .before .before .before .before .before .before .before .before .before .before .before .pre in
-    let h = total-below (now (a .kinds)) (now (a .lengths)) (c .before .before .before .before .before .before .before .before .loop .i) (a .n) (c .before .before .before .before .before .before .before .loop-test .taken) in
-    omega arith
-
-add-p : tie.Need-add-p Inv-loop μ-loop
-add-p c =
-    let a = c .before .before .before .before .before .before .before .before .before .before .before .before .before .before .before .before .args in
-    let f = c .before .before .before .before .before .before .before .before .before .before .before .before .before .before .before .before .pre in
-    let h = total-below (now (a .kinds)) (now (a .lengths)) (c .before .before .before .before .before .before .before .before .before .loop .i) (a .n) (c .before .before .before .before .before .before .before .before .loop-test .taken) in
-    let q = c .bytes-in-table .ensures in
-    let r = f .fits in
-    let t = c .before .before .before .before .before .before .before .before .before .loop .inv in
-    omega (arith, c .before .before .before .before .before .before .before .before .before .before .before .before .before .before .before .before .good)
 
 add-i : tie.Need-add-i Inv-loop μ-loop
 add-i c = search needs
@@ -72,14 +55,14 @@ loop-less c = search needs
 
 loop-again : tie.Need-loop-again Inv-loop μ-loop
 loop-again c =
-    let a = c .before .before .before .before .before .before .before .before .before .before .before .before .before .before .before .before .args in
-    let f = c .before .before .before .before .before .before .before .before .before .before .before .before .before .before .before .before .pre in
-    let t = c .before .before .before .before .before .before .before .before .before .loop in
-    let q = c .before .before .before .put-content in
-    let r = c .bytes-in-table .ensures in
+    let a = c .before .before .before .before .before .before .before .before .before .before .before .before .before .before .before .args in
+    let f = c .before .before .before .before .before .before .before .before .before .before .before .before .before .before .before .pre in
+    let t = c .before .before .before .before .before .before .before .before .loop in
+    let q = c .before .before .put-content in
+    let r = q .ensures .1 in
     let m = total-more (now (a .kinds)) (now (a .lengths)) (t .i) in
     let d = lent-described (now (a .kinds)) (now (a .starts)) (now (a .lengths)) (now (a .first) ++ now (a .second)) (a .n) (λ j l e. f .lent j l e .0) in
-    (search needs, q .kept .0 ∙ t .inv .1, omega arith, q .ensures ∙ string-turn (now (a .kinds)) (now (a .lengths)) (stringAt (now (a .kinds)) (now (a .starts)) (now (a .lengths)) (now (a .first) ++ now (a .second))) (now (a .b)) (t .b) (a .at) (t .p) (t .i) (a .n) d (f .fits) (c .before .before .before .before .before .before .before .before .loop-test .taken) (t .inv .2) (t .inv .3))
+    (search needs, q .kept .0 ∙ t .inv .1, omega arith, q .ensures .0 ∙ string-turn (now (a .kinds)) (now (a .lengths)) (stringAt (now (a .kinds)) (now (a .starts)) (now (a .lengths)) (now (a .first) ++ now (a .second))) (now (a .b)) (t .b) (a .at) (t .p) (t .i) (a .n) d (f .fits) (c .before .before .before .before .before .before .before .loop-test .taken) (t .inv .2) (t .inv .3))
 
 same-length : tie.Need-same-length Inv-loop μ-loop
 same-length c = c .before .loop .inv .1
@@ -98,14 +81,12 @@ put-table-spec =
     Inv-loop
     μ-loop
     loop-holds
-    shared-slice-read-kind
-    mul-size
-    shared-slice-read-size
-    mul-put-content
     shared-slice-read-put-content
+    mul-put-content
+    shared-slice-read-put-content-2
+    mul-put-content-2
+    shared-slice-read-put-content-3
     put-content-requires
-    bytes-in-table-requires
-    add-p
     add-i
     loop-less
     loop-again

@@ -82,10 +82,10 @@ write-sure-requires : tie.Need-write-sure-requires
 write-sure-requires c κs =
     let a = c .before .before .before .before .before .before .before .before .before .before .before .before .before .before .before .before .before .args in
     let h = handed (now (a .names)) (now (a .boolean-kinds)) (now (a .number-kinds)) (now (a .number-values)) (now (a .string-kinds)) (now (a .string-starts)) (now (a .string-lengths)) (now (a .lent)) in
-    let q : c .before .before .before .before .file-size .result ≡ sizeOf (sizesHanded (a .edition) h) = c .before .before .before .before .file-size .ensures ∙ ap sizeOf (c .before .before .before .before .before .sizes .ensures) in
+    let q = c .before .before .before .before .file-size .ensures in
     let m = c .before .before .before .if2 .left in
     let r = c .before .before .if3 .left in
-    sure (a .edition) h (c .before .before .before .before .before .before .before .before .before .before .before .before .before .before .before .before .before .pre) (now (a .buffer)) (omega arith) (omega arith)
+    sure (a .edition) h (c .before .before .before .before .before .before .before .before .before .before .before .before .before .before .before .before .before .pre) (now (a .buffer)) (c .before .before .before .before .before .sizes .result) (c .before .before .before .before .before .sizes .ensures) (omega arith) (omega arith)
 
 same-length : tie.Need-same-length
 same-length c = c .before .before .write-sure .kept .0
