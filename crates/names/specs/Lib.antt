@@ -2,4 +2,5 @@ pub mod Names
 pub mod Naming
 pub mod Lookup
 pub mod Searching
+pub mod Places
 pub mod LookupLaws

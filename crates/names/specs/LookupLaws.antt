@@ -3,48 +3,46 @@
 use mathlib.Core.Path.{_≡_, refl, sym, ap, _∙_}
 use mathlib.Core.Bool.{Bool, true, false, _&&_, not}
 use mathlib.Core.List.{List, [], _∷_, _++_}
-use Prim.Native.Nat.{ℕ, zero, suc, _+_, _-_, _*_, _/_, _%_, _^_, _≤_, _<_, suc-le-suc, min}
-use native.Mathlib.Nat.{pow-suc, not-suc-le-zero, le-of-suc-le-suc, zero-lt-suc}
+use Prim.Native.Nat.{ℕ, zero, suc, _+_, _-_, _*_, _^_, _≤_, _<_, min}
+use native.Mathlib.Nat.{pow-suc, not-suc-le-zero, le-of-suc-le-suc}
 use native.Mathlib.Decide.{ℕ-discrete}
 use native.Mathlib.Omega.{arith}
 use lib.Dec.{eqb, leb, ltb, lit<, lit≤}
-use lib.ListN.{length, getD, take, length-take, List·getD-append, List·getD-eq-default, List·getD-map}
-use lib.Seq.{getD-append-add, getD-take}
-use borrow.Author.Tests.{ltb-true, leb-true, eqb-true, eqb-false, eq-eqb, ne-eqb, le-leb, lt-leb, lt-ltb, le-ltb}
-use Rattle.base.specs.If.{if_then_else_, true-false, and-left, and-right}
-use Rattle.base.specs.Scan.{scan-all, scan-before, scan-ext, scan-step, scan-end}
-use Rattle.word.specs.Word.{word, bytes}
-use Rattle.word.specs.WordLaws.{word-skip, length-bytes}
-use Rattle.word.specs.Nul.{notNul, nulFrom}
+use lib.ListN.{length, getD, take, length-take, List·getD-append, List·getD-eq-default}
+use lib.Seq.{getD-append-add, getD-take, ext-getD}
+use borrow.Author.Tests.{ltb-true, leb-true, eqb-true, eq-eqb, ne-eqb, le-leb, lt-ltb, le-ltb}
+use Rattle.base.specs.If.{if_then_else_, true-false, and-left, and-right, below-or}
+use Rattle.base.specs.Scan.{scan-ext}
+use Rattle.word.specs.Word.{word}
 use Rattle.caps.specs.declared.Edition.{Edition}
 use Rattle.caps.specs.Edition.{place}
 use Rattle.names.specs.declared.Found.{Found}
 use Rattle.names.specs.declared.Found.the-variants as F
 use Rattle.names.specs.Names.{ascii, parted, named, booleanNames, numberNames, stringNames, allNames}
-use Rattle.names.specs.Naming.{packed, beforeNul, unpacked, packedNames, unpacked-all, packed-at}
-use Rattle.names.specs.Lookup.{sameBytes, placeIn, lookingUp}
+use Rattle.names.specs.Naming.{packed, packedNames, packed-at}
+use Rattle.names.specs.Lookup.{sameBytes, placeIn, isThere, lookingUp}
 use Rattle.names.specs.Searching.{fitsTable, sought, searching}
+use Rattle.names.specs.Places.{all, all-at, differs, differs-ne, placed-number, only-place, no-place}
 
 -- each element is a byte
 abbrev pub Bytes : List ℕ → Type 0
 Bytes n = (j : ℕ) → getD n j 0 < 256
 
--- no element is NUL
-abbrev pub NoNul : List ℕ → Type 0
-NoNul n = (j : ℕ) → j < length n → getD n j 0 ≡ 0 → ⊥
+-- ---- words
 
--- ---- words past a list's end
-
-pub word-past : (w : ℕ) (f : List ℕ) (p : ℕ) → length f ≤ p → word w f p ≡ 0
+word-past : (w : ℕ) (f : List ℕ) (p : ℕ) → length f ≤ p → word w f p ≡ 0
 unfolding word
 word-past zero f p h = refl
 word-past (suc w) f p h =
     rw (List·getD-eq-default f 0 h, word-past w f (suc p) (omega arith))
 
-pub word-more : (w : ℕ) (f : List ℕ) (p : ℕ) → length f ≤ p + w → word (suc w) f p ≡ word w f p
+-- bytes past a list's end add nothing
+word-more : (v w : ℕ) (f : List ℕ) (p : ℕ) → length f ≤ p + v → word (v + w) f p ≡ word v f p
 unfolding word
-word-more zero f p h = let l : length f ≤ p = omega arith in rw (List·getD-eq-default f 0 l)
-word-more (suc w) f p h = ap (λ (x : ℕ). getD f p 0 + 256 * x) (word-more w f (suc p) (omega arith))
+word-more zero w f p h = let e : 0 + w ≡ w = omega arith in rw e (word-past w f p (omega arith))
+word-more (suc v) w f p h =
+    let e : suc v + w ≡ suc (v + w) = omega arith in
+    rw e (ap (λ (x : ℕ). getD f p 0 + 256 * x) (word-more v w f (suc p) (omega arith)))
 
 pub word-below : (w : ℕ) (f : List ℕ) (p : ℕ) → Bytes f → word w f p < 256 ^ w
 unfolding word
@@ -54,67 +52,50 @@ word-below (suc w) f p b =
     let l = b p in
     rw (pow-suc 256 w) (omega arith)
 
+-- equal words have equal bytes
+word-each : (w : ℕ) (m n : List ℕ) (p : ℕ) → Bytes m → Bytes n → word w m p ≡ word w n p → (j : ℕ) → j < w → getD m (p + j) 0 ≡ getD n (p + j) 0
+unfolding word
+word-each zero m n p b c e j l = absurd (not-suc-le-zero l)
+word-each (suc w) m n p b c e zero l =
+    let u = b p in
+    let v = c p in
+    let z : p + 0 ≡ p = omega arith in
+    rw z (omega arith)
+word-each (suc w) m n p b c e (suc j) l =
+    let u = b p in
+    let v = c p in
+    let s : p + suc j ≡ suc p + j = omega arith in
+    rw s (word-each w m n (suc p) b c (omega arith) j (le-of-suc-le-suc l))
+
 -- ---- a name and its number
 
-fits-of : (n : List ℕ) → length n ≤ 8 → NoNul n → fitsTable n ≡ true
+fits-most : (n : List ℕ) → fitsTable n ≡ true → length n ≤ 5
 unfolding fitsTable
-fits-of n l h =
-    rw (le-leb _ _ l) (eq-eqb _ _ (scan-all (notNul n) 0 (length n - 0) (λ j a b. rw (ne-eqb _ _ (h j (omega arith)))) ∙ omega arith))
+fits-most n e = leb-true _ _ (and-left _ _ (and-right (leb 2 (length n)) _ e))
 
-fits-length : (n : List ℕ) → fitsTable n ≡ true → length n ≤ 8
+fits-end : (n : List ℕ) → fitsTable n ≡ true → getD n (length n - 1) 0 ≡ 0 → ⊥
 unfolding fitsTable
-fits-length n e = leb-true _ _ (and-left _ _ e)
+fits-end n e = differs-ne _ _ (and-right (leb (length n) 5) _ (and-right (leb 2 (length n)) _ e))
 
-fits-whole : (n : List ℕ) → fitsTable n ≡ true → nulFrom n 0 (length n) ≡ length n
-unfolding fitsTable
-fits-whole n e = eqb-true _ _ (and-right (leb (length n) 8) _ e)
+-- a list is as long as its number tells
+no-longer : (m n : List ℕ) → fitsTable n ≡ true → ((j : ℕ) → j < 8 → getD m j 0 ≡ getD n j 0) → length n ≤ length m
+no-longer m n e h =
+    below-or (length m) (length n)
+    (λ l. absurd (let k = fits-most n e in fits-end n e (sym (h (length n - 1) (omega arith)) ∙ List·getD-eq-default m 0 (omega arith))))
+    (λ l. l)
 
-fits-nul : (n : List ℕ) → fitsTable n ≡ true → NoNul n
-fits-nul n e j l z =
-    let t = scan-before (notNul n) 0 (length n - 0) j (omega arith) (rw (fits-whole n e) l) in
-    true-false (sym t ∙ rw (eq-eqb _ _ z))
+-- the bytes of a number
+number-bytes : (m n : List ℕ) → Bytes m → Bytes n → packed m ≡ packed n → (j : ℕ) → j < 8 → getD m j 0 ≡ getD n j 0
+unfolding packed
+number-bytes m n b c e j l = let z : 0 + j ≡ j = omega arith in rw z at (word-each 8 m n 0 b c e j l)
 
-before-length : (s : List ℕ) → length (beforeNul s) ≤ length s
-unfolding beforeNul
-before-length [] = omega arith
-before-length (b ∷ s) = by-test (eqb b 0) (before-length s)
-  where
-    by-test : (t : Bool) → length (beforeNul s) ≤ length s → length (if t then [] else b ∷ beforeNul s) ≤ suc (length s)
-    by-test true h = omega arith
-    by-test false h = omega arith
-
-before-nul : (s : List ℕ) → NoNul (beforeNul s)
-unfolding beforeNul
-before-nul [] = λ j l z. not-suc-le-zero l
-before-nul (b ∷ s) = by-test (eqb b 0) refl (before-nul s)
-  where
-    by-test : (t : Bool) → eqb b 0 ≡ t → NoNul (beforeNul s) → NoNul (if t then [] else b ∷ beforeNul s)
-    by-test true e h j l z = not-suc-le-zero l
-    by-test false e h zero l z = eqb-false b 0 e z
-    by-test false e h (suc j) l z = h j (le-of-suc-le-suc l) z
-
--- the number of a name gives the name again
-unpacked-word : (w : ℕ) (n : List ℕ) → length n ≤ w → Bytes n → NoNul n → beforeNul (bytes w (word w n 0)) ≡ n
-unfolding beforeNul bytes word
-unpacked-word zero [] l b h = refl
-unpacked-word zero (x ∷ n) l b h = absurd (not-suc-le-zero l)
-unpacked-word (suc w) [] l b h = rw (word-past w [] 1 (omega arith))
-unpacked-word (suc w) (x ∷ n) l b h =
-    let e : word w (x ∷ n) 1 ≡ word w n 0 = word-skip w (x ∷ []) n 0 in
-    let u : x < 256 = b 0 in
-    let m : (x + 256 * word w n 0) % 256 ≡ x = omega arith in
-    let d : (x + 256 * word w n 0) / 256 ≡ word w n 0 = omega arith in
-    rw (e, m, d, ne-eqb x 0 (h 0 (zero-lt-suc (length n))))
-    (ap (λ (s : List ℕ). x ∷ s) (unpacked-word w n (le-of-suc-le-suc l) (λ j. b (suc j)) (λ j k. h (suc j) (suc-le-suc k))))
-
-unpacked-packed : (n : List ℕ) → Bytes n → fitsTable n ≡ true → unpacked (packed n) ≡ n
-unfolding unpacked packed
-unpacked-packed n b e = unpacked-word 8 n (fits-length n e) b (fits-nul n e)
-
-unpacked-fits : (w : ℕ) → fitsTable (unpacked w) ≡ true
-unfolding unpacked
-unpacked-fits w =
-    fits-of (beforeNul (bytes 8 w)) (let l = before-length (bytes 8 w) in let k = length-bytes 8 w in omega arith) (before-nul (bytes 8 w))
+same-number : (m n : List ℕ) → Bytes m → Bytes n → fitsTable m ≡ true → fitsTable n ≡ true → packed m ≡ packed n → m ≡ n
+same-number m n b c d e q =
+    let h : (j : ℕ) → j < 8 → getD m j 0 ≡ getD n j 0 = number-bytes m n b c q in
+    let u = no-longer m n e h in
+    let v = no-longer n m d (λ j l. sym (h j l)) in
+    let k = fits-most n e in
+    ext-getD 0 m n (omega arith) (λ j l. h j (omega arith))
 
 pub same-refl : (n : List ℕ) → sameBytes n n ≡ true
 unfolding sameBytes
@@ -134,98 +115,73 @@ pub never : (t : Bool) → (t ≡ true → ⊥) → t ≡ false
 never true h = absurd (h refl)
 never false h = refl
 
--- a name m of number w, and any bytes n
-same-number : (m n : List ℕ) (w : ℕ) → unpacked w ≡ m → packed m ≡ w → (w ≡ 0 → ⊥) → Bytes n → sameBytes m n ≡ eqb w (sought n)
+-- a name m that fits the table, and any bytes n
+same-sought : (m n : List ℕ) → fitsTable m ≡ true → (packed m ≡ 0 → ⊥) → Bytes m → Bytes n → sameBytes m n ≡ eqb (packed m) (sought n)
 unfolding sought
-same-number m n w u p z b = by-fit (fitsTable n) refl
+same-sought m n d z b c = by-fit (fitsTable n) refl
   where
-    by-fit : (t : Bool) → fitsTable n ≡ t → sameBytes m n ≡ eqb w (if t then packed n else 0)
+    by-fit : (t : Bool) → fitsTable n ≡ t → sameBytes m n ≡ eqb (packed m) (if t then packed n else 0)
     by-fit true e =
-        elim (ℕ-discrete w (packed n)) [
-          | yes q ↦ (let k : m ≡ n = sym u ∙ ap unpacked q ∙ unpacked-packed n b e in rw (eq-eqb _ _ q, k) (same-refl n))
-          | no q ↦ (let k = never (sameBytes m n) (λ s. q (sym p ∙ ap packed (same-eq m n s))) in rw (ne-eqb _ _ q, k))
+        elim (ℕ-discrete (packed m) (packed n)) [
+          | yes q ↦ rw (eq-eqb _ _ q, same-number m n b c d e q) (same-refl n)
+          | no q ↦ (let k = never (sameBytes m n) (λ s. q (ap packed (same-eq m n s))) in rw (ne-eqb _ _ q, k))
         ]
     by-fit false e =
-        let k = never (sameBytes m n) (λ s. true-false (sym (unpacked-fits w) ∙ ap fitsTable (u ∙ same-eq m n s) ∙ e)) in
+        let k = never (sameBytes m n) (λ s. true-false (sym d ∙ ap fitsTable (same-eq m n s) ∙ e)) in
         rw (ne-eqb _ _ z, k)
 
--- ---- a name's number, byte by byte from the last
-
--- w is the number of the bytes from i on, of which none is NUL
-abbrev pub PackedFrom : List ℕ → ℕ → ℕ → Type 0
-PackedFrom n i w = (i ≤ length n) × ((w ≡ word 8 n i) × (nulFrom n i (length n) ≡ length n))
+-- ---- the number that a name is looked for by
 
 module _ (n : List ℕ) where
-  pub sought-long : 8 < length n → 0 ≡ sought n
-  unfolding sought fitsTable
-  sought-long h = rw (lt-leb (length n) 8 h)
-
-  pub sought-nul : (j : ℕ) → j < length n → getD n j 0 ≡ 0 → 0 ≡ sought n
+  not-sought : (fitsTable n ≡ true → ⊥) → 0 ≡ sought n
   unfolding sought
-  sought-nul j l z = rw (never (fitsTable n) (λ e. fits-nul n e j l z))
+  not-sought h = rw (never (fitsTable n) h)
 
-  pub packed-none : PackedFrom n (length n) 0
-  packed-none = (omega arith, (sym (word-past 8 n (length n) (omega arith)), scan-end (notNul n) (length n) (length n) (omega arith)))
+  pub sought-short : length n < 2 → 0 ≡ sought n
+  unfolding fitsTable
+  sought-short l = not-sought (λ e. let h = leb-true 2 (length n) (and-left _ _ e) in omega arith)
 
-  -- i is above 0, and the name has at most 8 bytes: what stands from i on has at most 7
-  module _ (i w : ℕ) (m : length n ≤ 8) (h : 0 < i) (k : PackedFrom n i w) where
-    packed-seven : word 8 n i ≡ word 7 n i
-    packed-seven = word-more 7 n i (omega arith)
+  -- no count of bytes that a name has
+  pub sought-other : 2 ≤ length n → (length n ≡ 2 → ⊥) → (length n ≡ 3 → ⊥) → (length n ≡ 4 → ⊥) → (length n ≡ 5 → ⊥) → 0 ≡ sought n
+  sought-other l a b c d = not-sought (λ e. let h = fits-most n e in omega arith)
 
-    pub packed-small : Bytes n → w < 256 ^ 7
-    packed-small b = rw (k .1 .0, packed-seven) (word-below 7 n i b)
+  pub sought-nul : getD n (length n - 1) 0 ≡ 0 → 0 ≡ sought n
+  sought-nul z = not-sought (λ e. fits-end n e z)
 
-    pub packed-more : (j : ℕ) → j ≡ i - 1 → (getD n j 0 ≡ 0 → ⊥) → PackedFrom n j (w * 256 + getD n j 0)
-    unfolding word
-    packed-more j e z =
-        let q : i ≡ suc j = omega arith in
-        let u : i ≡ j + 1 = omega arith in
-        let v : w ≡ word 7 n (suc j) = k .1 .0 ∙ packed-seven ∙ ap (word 7 n) q in
-        let f : nulFrom n (j + 1) (length n) ≡ length n = rw (← u) (k .1 .1) in (
-          omega arith,
-          (
-            omega arith,
-            scan-step (notNul n) j (length n) (ap not (ne-eqb (getD n j 0) 0 z)) (omega arith) ∙ f,
-          ),
-        )
-
-  pub packed-whole : (i w : ℕ) → length n ≤ 8 → i ≤ 0 → PackedFrom n i w → w ≡ sought n
+  pub sought-bytes : (k : ℕ) → length n ≡ k → 2 ≤ k → k ≤ 5 → (getD n (length n - 1) 0 ≡ 0 → ⊥) → word k n 0 ≡ sought n
   unfolding sought fitsTable packed
-  packed-whole i w m h k =
-      let z : i ≡ 0 = omega arith in
-      let e : nulFrom n 0 (length n) ≡ length n = rw z at (k .1 .1) in
-      rw (le-leb (length n) 8 m, eq-eqb (nulFrom n 0 (length n)) (length n) e) (rw z at (k .1 .0))
+  sought-bytes k q a b z =
+      let e : 8 ≡ k + (8 - k) = omega arith in
+      let l : 2 ≤ length n = omega arith in
+      let m : length n ≤ 5 = omega arith in
+      rw (le-leb 2 (length n) l, le-leb (length n) 5 m, ne-eqb _ _ z) (sym (rw e (word-more k (8 - k) n 0 (omega arith))))
 
 -- ---- the table
 
--- no number is 0
-abbrev nonzero : List ℕ → Bool
-nonzero [] = true
-nonzero (w ∷ ws) = not (eqb w 0) && nonzero ws
+-- one computed test: every name fits the table, has a number that isn't 0, and holds bytes
+abbrev isName : List ℕ → Bool
+isName m = fitsTable m && (differs (packed m) 0 && all (λ b. ltb b 256) m)
 
-nonzero-at : (ws : List ℕ) (k : ℕ) → nonzero ws ≡ true → k < length ws → getD ws k 0 ≡ 0 → ⊥
-nonzero-at [] k e l z = not-suc-le-zero l
-nonzero-at (w ∷ ws) zero e l z = true-false (sym (and-left (not (eqb w 0)) (nonzero ws) e) ∙ ap not (eq-eqb w 0 z))
-nonzero-at (w ∷ ws) (suc k) e l z = nonzero-at ws k (and-right (not (eqb w 0)) (nonzero ws) e) (le-of-suc-le-suc l) z
+names-right : all isName allNames ≡ true
+unfolding fitsTable packed word allNames booleanNames numberNames stringNames named parted ascii
+names-right = refl
 
--- one computed test
-names-nonzero : nonzero packedNames ≡ true
-unfolding packedNames packed word allNames booleanNames numberNames stringNames named parted ascii
-names-nonzero = refl
+names-count : length allNames ≡ 167
+unfolding allNames booleanNames numberNames stringNames named parted ascii
+names-count = refl
 
-names-length : length packedNames ≡ 167
-unfolding packedNames packed word allNames booleanNames numberNames stringNames named parted ascii
-names-length = refl
-
-unpacked-at : (k : ℕ) → unpacked (getD packedNames k 0) ≡ getD allNames k []
-unfolding unpacked beforeNul bytes
-unpacked-at k = sym (List·getD-map unpacked packedNames k 0) ∙ ap (λ (ns : List (List ℕ)). getD ns k []) unpacked-all
+all-bytes : (m : List ℕ) → all (λ b. ltb b 256) m ≡ true → Bytes m
+all-bytes m e j =
+    below-or j (length m) (λ l. ltb-true _ _ (all-at (λ b. ltb b 256) m j 0 e l)) (λ l. rw (List·getD-eq-default m 0 l) (lit< tt))
 
 -- a name of the table is the bytes n, or its number isn't the one that n is looked for by
 name-at : (k : ℕ) (n : List ℕ) → k < 167 → Bytes n → sameBytes (getD allNames k []) n ≡ eqb (getD packedNames k 0) (sought n)
 name-at k n l b =
-    same-number (getD allNames k []) n (getD packedNames k 0) (unpacked-at k) (sym (packed-at k))
-    (nonzero-at packedNames k names-nonzero (rw names-length l)) b
+    let m : List ℕ = getD allNames k [] in
+    let e : isName m ≡ true = all-at isName allNames k [] names-right (rw names-count l) in
+    let f : (differs (packed m) 0 && all (λ x. ltb x 256) m) ≡ true = and-right (fitsTable m) _ e in
+    rw (packed-at k)
+    (same-sought m n (and-left (fitsTable m) _ e) (differs-ne _ _ (and-left (differs (packed m) 0) _ f)) (all-bytes m (and-right (differs (packed m) 0) _ f)) b)
 
 -- ---- the lists within the table
 
@@ -260,80 +216,96 @@ strings-listed i l =
     let e : 29 + i ≡ length booleanNames + (length numberNames + i) = rw (booleans-length, numbers-length) (omega arith) in
     rw e (getD-append-add booleanNames (numberNames ++ stringNames) (length numberNames + i) [] ∙ getD-append-add numberNames stringNames i [])
 
--- ---- searches
+-- ---- a name's place in a list, by the place of its number in the table
 
--- a name's place in a list of count names is i
-abbrev Placed : List (List ℕ) → List ℕ → ℕ → ℕ → Type 0
-Placed ns n count i = (length ns ≡ count) × (placeIn ns n ≡ i)
+-- k is the place of the number of the bytes n among all
+abbrev pub TablePlace : List ℕ → ℕ → Type 0
+TablePlace n k = k ≡ searching 0 167 (sought n)
 
--- i is the answer of a search for w among the count names from first on: c of the list's size
-abbrev pub Searched : ℕ → ℕ → ℕ → ℕ → ℕ → ℕ → Type 0
-Searched first size c w count i = (count ≡ min c size) × (i ≡ searching first count w)
+-- the number of the bytes n stands at place k only
+module _ (n : List ℕ) (k : ℕ) (t : TablePlace n k) where
+  table-at : k < 167 → sought n ≡ getD packedNames k 0
+  table-at l =
+      let z : 0 + searching 0 167 (sought n) ≡ k = omega arith in
+      sym (placed-number 0 167 (sought n) (omega arith)) ∙ ap (λ (i : ℕ). getD packedNames i 0) z
 
--- names stand in all names from first on
+  table-only : (j : ℕ) → j < 167 → getD packedNames j 0 ≡ sought n → j ≡ k
+  table-only j l q = only-place 0 167 (sought n) j (lit≤ tt) l (let z : 0 + j ≡ j = omega arith in rw z (sym q)) ∙ sym t
+
+-- names stand in all names from first on, and an edition counts c of them
 module _ (names : List (List ℕ)) (first size c : ℕ) (e : length names ≡ size) (within : first + size ≤ 167)
-    (listed : (i : ℕ) → i < size → getD allNames (first + i) [] ≡ getD names i []) where
-  sought-at : (n : List ℕ) → Bytes n → (j : ℕ) → j < min c size
-      → eqb (getD packedNames (first + j) 0) (sought n) ≡ sameBytes (getD (take c names) j []) n
-  sought-at n b j l =
+    (listed : (i : ℕ) → i < size → getD allNames (first + i) [] ≡ getD names i []) (n : List ℕ) (b : Bytes n) where
+  known : length (take c names) ≡ min c size
+  known = rw (length-take c names, e)
+
+  known-same : (j : ℕ) → j < min c size → eqb (getD packedNames (first + j) 0) (sought n) ≡ sameBytes (getD (take c names) j []) n
+  known-same j l =
       let k : j < c = omega arith in
       let m : j < size = omega arith in
       rw (getD-take c names j [] k, ← listed j m) (sym (name-at (first + j) n (omega arith) b))
 
-  placed : (n : List ℕ) → Bytes n → (w : ℕ) → w ≡ sought n → (count i : ℕ) → Searched first size c w count i → Placed (take c names) n count i
+  known-place : placeIn (take c names) n ≡ searching first (min c size) (sought n)
   unfolding searching placeIn
-  placed n b w s count i k =
-      let l : length (take c names) ≡ min c size = rw (length-take c names, e) in (
-        l ∙ sym (k .0),
-        rw (l, k .1, k .0, s) (scan-ext _ _ 0 (min c size) (λ j g h. ap not (sym (sought-at n b j (omega arith))))),
-      )
+  known-place = rw known (scan-ext _ _ 0 (min c size) (λ j g h. ap not (sym (known-same j (omega arith)))))
 
--- ---- the answers, by three searches for w
+  module _ (k : ℕ) (t : TablePlace n k) where
+    in-list : first ≤ k → k < first + size → k - first < c
+        → (isThere (take c names) n ≡ true) × (placeIn (take c names) n ≡ k - first)
+    in-list l m o =
+        let i : k ≡ first + (k - first) = omega arith in
+        let q : sought n ≡ getD packedNames (first + (k - first)) 0 = rw i at (table-at n k t (omega arith)) in
+        let p : placeIn (take c names) n ≡ k - first = known-place ∙ sym (only-place first (min c size) (sought n) (k - first) (omega arith) (omega arith) q) in
+        (rw (p, known) (lt-ltb (k - first) (min c size) (omega arith)), p)
 
-abbrev pub Booleans : Edition → ℕ → ℕ → ℕ → Type 0
-Booleans e w count i = Searched 0 21 (e .booleans) w count i
+    not-in-list : (first ≤ k → k < first + size → c ≤ k - first) → isThere (take c names) n ≡ false
+    not-in-list h =
+        let p : placeIn (take c names) n ≡ min c size =
+        known-place
+        ∙ sym (no-place first (min c size) (sought n) (λ j l q. let i = table-only n k t (first + j) (omega arith) q in let g = h (omega arith) (omega arith) in omega arith)) in
+        rw (p, known) (le-ltb (min c size) (min c size) (omega arith))
 
-abbrev pub Numbers : Edition → ℕ → ℕ → ℕ → Type 0
-Numbers e w count i = Searched 21 8 (e .numbers) w count i
+-- ---- the answers
 
-abbrev pub Strings : Edition → ℕ → ℕ → ℕ → Type 0
-Strings e w count i = Searched 29 138 (e .strings) w count i
+module _ (e : Edition) (n : List ℕ) (b : Bytes n) (k : ℕ) (t : TablePlace n k) where
+  no-boolean : (k < 21 → e .booleans ≤ k) → isThere (take (e .booleans) booleanNames) n ≡ false
+  no-boolean h = not-in-list booleanNames 0 21 (e .booleans) booleans-length (lit≤ tt) booleans-listed n b k t (λ l m. let g = h (omega arith) in omega arith)
 
-module _ (e : Edition) (n : List ℕ) (b : Bytes n) (w : ℕ) (s : w ≡ sought n) where
-  boolean-placed : (count i : ℕ) → Booleans e w count i → Placed (take (e .booleans) booleanNames) n count i
-  boolean-placed = placed booleanNames 0 21 (e .booleans) booleans-length (lit≤ tt) booleans-listed n b w s
+  no-number : (21 ≤ k → k < 29 → e .numbers ≤ k - 21) → isThere (take (e .numbers) numberNames) n ≡ false
+  no-number h = not-in-list numberNames 21 8 (e .numbers) numbers-length (lit≤ tt) numbers-listed n b k t (λ l m. h l (omega arith))
 
-  number-placed : (count i : ℕ) → Numbers e w count i → Placed (take (e .numbers) numberNames) n count i
-  number-placed = placed numberNames 21 8 (e .numbers) numbers-length (lit≤ tt) numbers-listed n b w s
+  no-string : (29 ≤ k → k < 167 → e .strings ≤ k - 29) → isThere (take (e .strings) stringNames) n ≡ false
+  no-string h = not-in-list stringNames 29 138 (e .strings) strings-length (lit≤ tt) strings-listed n b k t (λ l m. h l (omega arith))
 
-  string-placed : (count i : ℕ) → Strings e w count i → Placed (take (e .strings) stringNames) n count i
-  string-placed = placed stringNames 29 138 (e .strings) strings-length (lit≤ tt) strings-listed n b w s
-
-  pub found-boolean : (bs i : ℕ) → Booleans e w bs i → i < bs → F.Boolean (place i) ≡ lookingUp e n
+  pub found-boolean : k < 21 → k < e .booleans → F.Boolean (place k) ≡ lookingUp e n
   unfolding lookingUp
-  found-boolean bs i k l = let p = boolean-placed bs i k in rw (p .0, p .1, lt-ltb i bs l)
+  found-boolean l m =
+      let z : k - 0 ≡ k = omega arith in
+      let p = in-list booleanNames 0 21 (e .booleans) booleans-length (lit≤ tt) booleans-listed n b k t (omega arith) (omega arith) (omega arith) in
+      rw (p .0, p .1, z)
 
-  module _ (bs i ns j : ℕ) (k : Booleans e w bs i) (l : bs ≤ i) (o : Numbers e w ns j) where
-    pub found-number : j < ns → F.Number (place j) ≡ lookingUp e n
-    unfolding lookingUp
-    found-number m =
-        let p = boolean-placed bs i k in
-        let q = number-placed ns j o in
-        rw (p .0, p .1, le-ltb i bs l, q .0, q .1, lt-ltb j ns m)
+  pub found-number : 21 ≤ k → k < 29 → k - 21 < e .numbers → F.Number (place (k - 21)) ≡ lookingUp e n
+  unfolding lookingUp
+  found-number l m o =
+      let p = in-list numberNames 21 8 (e .numbers) numbers-length (lit≤ tt) numbers-listed n b k t l (omega arith) o in
+      let q = no-boolean (λ h. absurd (let y : ⊥ = omega arith in y)) in
+      rw (q, p .0, p .1)
 
-    by-strings : (ss g : ℕ) → ns ≤ j → Strings e w ss g → (if ltb g ss then F.String (place g) else F.Unknown) ≡ lookingUp e n
-    unfolding lookingUp
-    by-strings ss g m h =
-        let p = boolean-placed bs i k in
-        let q = number-placed ns j o in
-        let r = string-placed ss g h in
-        rw (p .0, p .1, le-ltb i bs l, q .0, q .1, le-ltb j ns m, r .0, r .1)
+  pub found-string : 29 ≤ k → k < 167 → k - 29 < e .strings → F.String (place (k - 29)) ≡ lookingUp e n
+  unfolding lookingUp
+  found-string l m o =
+      let p = in-list stringNames 29 138 (e .strings) strings-length (lit≤ tt) strings-listed n b k t l (omega arith) o in
+      let q = no-boolean (λ h. absurd (let y : ⊥ = omega arith in y)) in
+      let r = no-number (λ h i. absurd (let y : ⊥ = omega arith in y)) in
+      rw (q, r, p .0, p .1)
 
-    pub found-string : (ss g : ℕ) → ns ≤ j → Strings e w ss g → g < ss → F.String (place g) ≡ lookingUp e n
-    found-string ss g m h t = rw (lt-ltb g ss t) at (by-strings ss g m h)
-
-    pub found-none : (ss g : ℕ) → ns ≤ j → Strings e w ss g → ss ≤ g → F.Unknown ≡ lookingUp e n
-    found-none ss g m h t = rw (le-ltb g ss t) at (by-strings ss g m h)
+  pub found-none : (k < 21 → e .booleans ≤ k) → (21 ≤ k → k < 29 → e .numbers ≤ k - 21) → (29 ≤ k → k < 167 → e .strings ≤ k - 29)
+      → F.Unknown ≡ lookingUp e n
+  unfolding lookingUp
+  found-none f g h =
+      let p = no-boolean f in
+      let q = no-number g in
+      let r = no-string h in
+      rw (p, q, r)
 
 -- ---- the edition knows the place of a name that it finds
 

@@ -2,17 +2,16 @@
 -- Assumes nothing.
 use mathlib.Core.Bool.{Bool, _&&_, not}
 use mathlib.Core.List.{List}
-use Prim.Native.Nat.{ℕ, _+_}
+use Prim.Native.Nat.{ℕ, _+_, _-_}
 use lib.Dec.{eqb, leb}
 use lib.ListN.{length, getD}
 use Rattle.base.specs.If.{if_then_else_}
 use Rattle.base.specs.Scan.{scan}
-use Rattle.word.specs.Nul.{nulFrom}
 use Rattle.names.specs.Naming.{packed, packedNames}
 
--- at most eight bytes, none of them NUL
+-- two to five bytes, as each name has; the last isn't NUL, so that the number tells how many there are
 unfoldable pub fitsTable : List ℕ → Bool
-fitsTable n = leb (length n) 8 && eqb (nulFrom n 0 (length n)) (length n)
+fitsTable n = leb 2 (length n) && (leb (length n) 5 && not (eqb (getD n (length n - 1) 0) 0))
 
 -- the number that stands for a name in the table; 0, which the table doesn't hold, for bytes that are no name of it
 unfoldable pub sought : List ℕ → ℕ

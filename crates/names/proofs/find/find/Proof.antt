@@ -1,85 +1,82 @@
--- `names::find::find` meets its contract: each search in the table is a search in its list.
+-- `names::find::find` meets its contract: the place of the name's number in the table tells its list and its place there.
 use denote.Ref.{now}
+use mathlib.Core.Path.{_≡_, ap, _∙_}
+use Prim.Native.Nat.{ℕ, _-_, _≤_, _<_}
+use native.Mathlib.Omega.{arith}
 use borrow.Author.Needs.{needs}
-use Rattle.names.specs.LookupLaws.{found-boolean, found-number, found-string, found-none}
+use Rattle.names.specs.declared.Found.the-variants as F
+use Rattle.names.specs.Lookup.{lookingUp}
+use Rattle.names.specs.Searching.{searching}
+use Rattle.names.specs.LookupLaws.{Bytes, TablePlace, found-boolean, found-number, found-string, found-none}
 use Rattle.names.proofs.find.find.Statement.{statement}
 use Rattle.names.proofs.find.find.Tie as tie
+
+-- ---- what is known behind the call of `place_of`
+
+are-bytes : (p : tie.After-place-of) → Bytes (now (p .before .before .before .args .name))
+are-bytes p j = p .before .before .shared-slice-known .given j .fits
+
+placed : (p : tie.After-place-of) → TablePlace (now (p .before .before .before .args .name)) (p .place-of .result)
+placed p = p .place-of .ensures ∙ ap (searching 0 167) (p .before .pack .ensures)
+
+none : (p : tie.After-place-of) → let e = p .before .before .before .args .edition in let k = p .place-of .result in
+    (k < 21 → e .booleans ≤ k) → (21 ≤ k → k < 29 → e .numbers ≤ k - 21) → (29 ≤ k → k < 167 → e .strings ≤ k - 29)
+    → F.Unknown ≡ lookingUp e (now (p .before .before .before .args .name))
+none p = found-none (p .before .before .before .args .edition) _ (are-bytes p) (p .place-of .result) (placed p)
+
+-- ---- the needs
 
 pack-requires : tie.Need-pack-requires
 pack-requires c κs = search needs
 
-least-requires : tie.Need-least-requires
-least-requires c κs = search needs
-
-place-in-requires : tie.Need-place-in-requires
-place-in-requires c κs = search needs
+place-of-requires : tie.Need-place-of-requires
+place-of-requires c κs = search needs
 
 returns : tie.Need-returns
 returns c =
-    let i = c .before in
-    let s = i .before .before .before .before .args in
-    found-boolean (s .edition) (now (s .name)) (λ j. i .before .before .before .shared-slice-known .given j .fits) (i .before .before .pack .result) (i .before .before .pack .ensures)
-    (i .before .least .result) (i .place-in .result) (i .before .least .ensures, i .place-in .ensures) (c .if1 .taken)
-
-least-requires-2 : tie.Need-least-requires-2
-least-requires-2 c κs = search needs
-
-place-in-requires-2 : tie.Need-place-in-requires-2
-place-in-requires-2 c κs = search needs
+    let p = c .before .before .before in
+    found-boolean (p .before .before .before .args .edition) _ (are-bytes p) (p .place-of .result) (placed p) (omega arith) (omega arith)
 
 returns-2 : tie.Need-returns-2
-returns-2 c =
-    let j = c .before in
-    let i = j .before .before .before in
-    let s = i .before .before .before .before .args in
-    found-number (s .edition) (now (s .name)) (λ x. i .before .before .before .shared-slice-known .given x .fits) (i .before .before .pack .result) (i .before .before .pack .ensures)
-    (i .before .least .result) (i .place-in .result) (j .before .least2 .result) (j .place-in2 .result)
-    (i .before .least .ensures, i .place-in .ensures) (j .before .before .if1 .left) (j .before .least2 .ensures, j .place-in2 .ensures) (c .if2 .taken)
+returns-2 c = none (c .before .before .before) (λ h. omega arith) (λ h g. omega arith) (λ h g. omega arith)
 
-least-requires-3 : tie.Need-least-requires-3
-least-requires-3 c κs = search needs
-
-add-place-in : tie.Need-add-place-in
-add-place-in c = search needs
-
-place-in-requires-3 : tie.Need-place-in-requires-3
-place-in-requires-3 c κs = search needs
+add-numbers-end : tie.Need-add-numbers-end
+add-numbers-end c = search needs
 
 returns-3 : tie.Need-returns-3
 returns-3 c =
-    let k = c .before in
-    let j = k .before .before .before in
-    let i = j .before .before .before in
-    let s = i .before .before .before .before .args in
-    found-string (s .edition) (now (s .name)) (λ x. i .before .before .before .shared-slice-known .given x .fits) (i .before .before .pack .result) (i .before .before .pack .ensures)
-    (i .before .least .result) (i .place-in .result) (j .before .least2 .result) (j .place-in2 .result)
-    (i .before .least .ensures, i .place-in .ensures) (j .before .before .if1 .left) (j .before .least2 .ensures, j .place-in2 .ensures)
-    (k .before .least3 .result) (k .place-in3 .result) (k .before .before .if2 .left) (k .before .least3 .ensures, k .place-in3 .ensures) (c .if3 .taken)
+    let p = c .before .before .before .before in
+    found-number (p .before .before .before .args .edition) _ (are-bytes p) (p .place-of .result) (placed p) (omega arith) (omega arith) (omega arith)
 
 returns-4 : tie.Need-returns-4
-returns-4 c =
-    let k = c .before in
-    let j = k .before .before .before in
-    let i = j .before .before .before in
-    let s = i .before .before .before .before .args in
-    found-none (s .edition) (now (s .name)) (λ x. i .before .before .before .shared-slice-known .given x .fits) (i .before .before .pack .result) (i .before .before .pack .ensures)
-    (i .before .least .result) (i .place-in .result) (j .before .least2 .result) (j .place-in2 .result)
-    (i .before .least .ensures, i .place-in .ensures) (j .before .before .if1 .left) (j .before .least2 .ensures, j .place-in2 .ensures)
-    (k .before .least3 .result) (k .place-in3 .result) (k .before .before .if2 .left) (k .before .least3 .ensures, k .place-in3 .ensures) (c .if3 .left)
+returns-4 c = none (c .before .before .before .before) (λ h. omega arith) (λ h g. omega arith) (λ h g. omega arith)
+
+add-if5 : tie.Need-add-if5
+add-if5 c = search needs
+
+returns-5 : tie.Need-returns-5
+returns-5 c =
+    let p = c .before .before .before .before .before in
+    found-string (p .before .before .before .args .edition) _ (are-bytes p) (p .place-of .result) (placed p) (omega arith) (omega arith) (omega arith)
+
+returns-6 : tie.Need-returns-6
+returns-6 c = none (c .before .before .before .before .before) (λ h. omega arith) (λ h g. omega arith) (λ h g. omega arith)
+
+returns-7 : tie.Need-returns-7
+returns-7 c = none (c .before .before .before) (λ h. omega arith) (λ h g. omega arith) (λ h g. omega arith)
 
 pub find-spec : {M : Type 1} → statement M
 find-spec =
     tie.close
     (tie.spec
     pack-requires
-    least-requires
-    place-in-requires
+    place-of-requires
     returns
-    least-requires-2
-    place-in-requires-2
     returns-2
-    least-requires-3
-    add-place-in
-    place-in-requires-3
+    add-numbers-end
     returns-3
-    returns-4)
+    returns-4
+    add-if5
+    returns-5
+    returns-6
+    returns-7)

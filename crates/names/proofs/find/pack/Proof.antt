@@ -1,74 +1,132 @@
--- `names::find::pack` meets its contract. The invariant: word is the number of the bytes from i on, and none of them is NUL.
+-- `names::find::pack` meets its contract, for each count of bytes that a name has.
 use denote.Ref.{now}
-use Prim.Native.Nat.{_-_}
-use mathlib.Core.Path.{refl}
 use native.Mathlib.Omega.{arith}
+use lib.Dec.{lit≤}
 use borrow.Author.Needs.{needs}
-use Rattle.names.specs.LookupLaws.{PackedFrom, sought-long, sought-nul, packed-none, packed-small, packed-more, packed-whole}
+use Rattle.word.specs.Word.{word}
+use Rattle.names.specs.LookupLaws.{sought-short, sought-other, sought-nul, sought-bytes}
 use Rattle.names.proofs.find.pack.Statement.{statement}
 use Rattle.names.proofs.find.pack.Tie as tie
 
-abbrev Inv-loop : tie.InvT-loop
-Inv-loop name word₀ i₀ word i = PackedFrom name i word
+returns : tie.Need-returns
+returns c = sought-short (now (c .before .before .args .name)) (c .if1 .taken)
 
-abbrev μ-loop : tie.MeasureT-loop
-μ-loop name word₀ i₀ word i = i
+sub-if2 : tie.Need-sub-if2
+sub-if2 c = search needs
 
-returns : tie.Need-returns Inv-loop μ-loop
-returns c = sought-long (now (c .before .args .name)) (c .if1 .taken)
-
-loop-holds : tie.Need-loop-holds Inv-loop μ-loop
-loop-holds c = packed-none (now (c .before .args .name))
-
-sub-i : tie.Need-sub-i Inv-loop μ-loop
-sub-i c = search needs
-
-shared-slice-read-if2 : tie.Need-shared-slice-read-if2 Inv-loop μ-loop
+shared-slice-read-if2 : tie.Need-shared-slice-read-if2
 shared-slice-read-if2 c = search needs
 
-returns-2 : tie.Need-returns-2 Inv-loop μ-loop
-returns-2 c = sought-nul (now (c .before .before .before .before .before .args .name)) (c .before .before .before .loop .i - 1) (omega arith) (c .if2 .taken)
+returns-2 : tie.Need-returns-2
+returns-2 c = sought-nul (now (c .before .before .before .before .args .name)) (c .if2 .taken)
 
-mul-word : tie.Need-mul-word Inv-loop μ-loop
-mul-word c =
-    let l = packed-small (now (c .before .before .before .before .before .args .name)) (c .before .before .before .loop .i) (c .before .before .before .loop .word) (c .before .before .before .before .if1 .left) (c .before .before .loop-test .taken) (c .before .before .before .loop .inv) (λ j. c .before .shared-slice-known .given j .fits) in
+short-at-requires : tie.Need-short-at-requires
+short-at-requires c κs = search needs
+
+short-at-requires-2 : tie.Need-short-at-requires-2
+short-at-requires-2 c κs = search needs
+
+byte-at-requires : tie.Need-byte-at-requires
+byte-at-requires c κs = search needs
+
+mul-result : tie.Need-mul-result
+mul-result c = search needs
+
+add-result : tie.Need-add-result
+add-result c = search needs
+
+short-at-requires-3 : tie.Need-short-at-requires-3
+short-at-requires-3 c κs = search needs
+
+short-at-requires-4 : tie.Need-short-at-requires-4
+short-at-requires-4 c κs = search needs
+
+mul-result-2 : tie.Need-mul-result-2
+mul-result-2 c = search needs
+
+add-result-2 : tie.Need-add-result-2
+add-result-2 c = search needs
+
+short-at-requires-5 : tie.Need-short-at-requires-5
+short-at-requires-5 c κs = search needs
+
+short-at-requires-6 : tie.Need-short-at-requires-6
+short-at-requires-6 c κs = search needs
+
+mul-result-3 : tie.Need-mul-result-3
+mul-result-3 c = search needs
+
+add-result-3 : tie.Need-add-result-3
+add-result-3 c = search needs
+
+byte-at-requires-2 : tie.Need-byte-at-requires-2
+byte-at-requires-2 c κs = search needs
+
+mul-result-4 : tie.Need-mul-result-4
+mul-result-4 c = search needs
+
+add-result-4 : tie.Need-add-result-4
+add-result-4 c = search needs
+
+returns-3 : tie.Need-returns-3
+unfolding word
+returns-3 c =
+    let m = c .before in
+    let s = sought-bytes (now (m .before .before .before .before .before .args .name)) 2 (m .match .keys1) (lit≤ tt) (lit≤ tt) (m .before .if2 .left) in
     omega arith
 
-shared-slice-read-word : tie.Need-shared-slice-read-word Inv-loop μ-loop
-shared-slice-read-word c = search needs
+returns-4 : tie.Need-returns-4
+unfolding word
+returns-4 c =
+    let m = c .before .before in
+    let s = sought-bytes (now (m .before .before .before .before .before .args .name)) 3 (m .match .keys2) (lit≤ tt) (lit≤ tt) (m .before .if2 .left) in
+    omega arith
 
-cast-word : tie.Need-cast-word Inv-loop μ-loop
-cast-word c = omega (arith, c .shared-slice-known2 .given (c .before .before .before .before .loop .i - 1))
+returns-5 : tie.Need-returns-5
+unfolding word
+returns-5 c =
+    let m = c .before .before in
+    let s = sought-bytes (now (m .before .before .before .before .before .args .name)) 4 (m .match .keys3) (lit≤ tt) (lit≤ tt) (m .before .if2 .left) in
+    omega arith
 
-add-word : tie.Need-add-word Inv-loop μ-loop
-add-word c =
-    let l = packed-small (now (c .before .before .before .before .before .before .args .name)) (c .before .before .before .before .loop .i) (c .before .before .before .before .loop .word) (c .before .before .before .before .before .if1 .left) (c .before .before .before .loop-test .taken) (c .before .before .before .before .loop .inv) (λ j. c .shared-slice-known2 .given j .fits) in
-    omega (arith, c .shared-slice-known2 .given (c .before .before .before .before .loop .i - 1))
+returns-6 : tie.Need-returns-6
+unfolding word
+returns-6 c =
+    let m = c .before .before .before in
+    let s = sought-bytes (now (m .before .before .before .before .before .args .name)) 5 (m .match .keys4) (lit≤ tt) (lit≤ tt) (m .before .if2 .left) in
+    omega arith
 
-loop-less : tie.Need-loop-less Inv-loop μ-loop
-loop-less c = search needs
-
-loop-again : tie.Need-loop-again Inv-loop μ-loop
-loop-again c = packed-more (now (c .before .before .before .before .before .before .args .name)) (c .before .before .before .before .loop .i) (c .before .before .before .before .loop .word) (c .before .before .before .before .before .if1 .left) (c .before .before .before .loop-test .taken) (c .before .before .before .before .loop .inv) (c .before .before .before .before .loop .i - 1) refl (c .before .if2 .left)
-
-returns-3 : tie.Need-returns-3 Inv-loop μ-loop
-returns-3 c = packed-whole (now (c .before .before .before .args .name)) (c .before .loop .i) (c .before .loop .word) (c .before .before .if1 .left) (c .loop-test .left) (c .before .loop .inv)
+returns-7 : tie.Need-returns-7
+returns-7 c =
+    let r = c .match .rest in
+    sought-other (now (c .before .before .before .before .before .args .name)) (c .before .before .before .if1 .left) (r .0 .0 .0 .1) (r .0 .0 .1) (r .0 .1) (r .1)
 
 pub pack-spec : {M : Type 1} → statement M
 pack-spec =
     tie.close
     (tie.spec
-    Inv-loop
-    μ-loop
     returns
-    loop-holds
-    sub-i
+    sub-if2
     shared-slice-read-if2
     returns-2
-    mul-word
-    shared-slice-read-word
-    cast-word
-    add-word
-    loop-less
-    loop-again
-    returns-3)
+    short-at-requires
+    short-at-requires-2
+    byte-at-requires
+    mul-result
+    add-result
+    short-at-requires-3
+    short-at-requires-4
+    mul-result-2
+    add-result-2
+    short-at-requires-5
+    short-at-requires-6
+    mul-result-3
+    add-result-3
+    byte-at-requires-2
+    mul-result-4
+    add-result-4
+    returns-3
+    returns-4
+    returns-5
+    returns-6
+    returns-7)
