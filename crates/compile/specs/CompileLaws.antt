@@ -36,6 +36,10 @@ use Rattle.compile.specs.Held.{textEntry, Holds, walkedAs, Walks}
 abbrev pub zeros : ℕ → List ℕ
 zeros n = replicate n 0
 
+-- the start and the length of a string whose kind is absent
+abbrev pub unset : ℕ
+unset = 1
+
 zero-at : (n i : ℕ) → getD (zeros n) i 0 ≡ 0
 zero-at zero i = refl
 zero-at (suc n) zero = refl
@@ -57,13 +61,13 @@ all-absent {A} c kinds (suc n) z =
 
 module _ (e : Edition) (t : List ℕ) where
   abbrev pub cleared : List ℕ → Handed
-  cleared n = handed n (zeros 64) (zeros 64) (zeros 64) (zeros 512) (zeros 512) (zeros 512) t
+  cleared n = handed n (zeros 64) (zeros 64) (zeros 64) (zeros 512) (replicate 512 unset) (replicate 512 unset) t
 
   pub cleared-entry : (n : List ℕ) → textEntry e (cleared n) ≡ bare e n
   cleared-entry n =
       let b = all-absent (λ i. tt) (zeros 64) (e .booleans) (zero-at 64) in
       let m = all-absent (λ i. getD (zeros 64) i 0) (zeros 64) (e .numbers) (zero-at 64) in
-      let s = all-absent (λ i. bytesOf (readAt t (getD (zeros 512) i 0))) (zeros 512) (e .strings) (zero-at 512) in
+      let s = all-absent (λ i. bytesOf (readAt t (getD (replicate 512 unset) i 0))) (zeros 512) (e .strings) (zero-at 512) in
       λ i. record { names = n; booleans = b i; numbers = m i; strings = s i }
 
   pub cleared-holds : okEdition e ≡ true → Holds e (cleared [])

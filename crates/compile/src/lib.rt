@@ -27,6 +27,10 @@ mod file;
 mod keep;
 mod walk;
 
+// The start and the length of a string that no field has given: nobody reads them, since its kind is absent. A word whose bytes differ, so
+// that an array is filled by stores of vectors and not by a call.
+const UNSET: usize = 1;
+
 // What the fields of a text come to.
 pub enum Walked {
     Done,
@@ -49,8 +53,8 @@ fn compile_fields(
     let mut number_kinds = [0u8; NUMBERS_MOST];
     let mut number_values = [0u32; NUMBERS_MOST];
     let mut string_kinds = [0u8; STRINGS_MOST];
-    let mut string_starts = [0usize; STRINGS_MOST];
-    let mut string_lengths = [0usize; STRINGS_MOST];
+    let mut string_starts = [UNSET; STRINGS_MOST];
+    let mut string_lengths = [UNSET; STRINGS_MOST];
     match walk::walk(
         text,
         comma + 1,
