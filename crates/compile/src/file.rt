@@ -30,7 +30,7 @@ fn put_string(b: &mut [u8], at: usize, kind: u8, start: usize, size: usize, text
     if kind != PRESENT {
         return;
     }
-    lex::put_read(b, at, text, start);
+    lex::put_read(b, at, text, start, size);
     b[at + size] = 0;
 }
 

@@ -6,7 +6,8 @@ use Prim.Native.Nat.{ℕ, _+_, _≤_}
 use lib.ListN.{length}
 use Rattle.text.specs.Strings.{malformed, readAt, bytesOf}
 
--- a string stands at from, and its bytes have room in b from at on
-pub record Fits (b : List ℕ) (at : ℕ) (t : List ℕ) (from : ℕ) : Type 0 where
+-- a string stands at from, for size bytes, which have room in b from at on
+pub record Fits (b : List ℕ) (at : ℕ) (t : List ℕ) (from size : ℕ) : Type 0 where
   pub whole : readAt t from ≡ malformed → ⊥
-  pub room : at + length (bytesOf (readAt t from)) ≤ length b
+  pub counted : size ≡ length (bytesOf (readAt t from))
+  pub room : at + size ≤ length b

@@ -1,1 +1,4 @@
 pub mod Fits
+pub mod Usual
+pub mod UsualLaws
+pub mod Putting

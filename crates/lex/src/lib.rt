@@ -7,7 +7,9 @@ ghost use Rattle.base.specs.Overwrite.{putAt};
 ghost use Rattle.text.specs.Bytes.{digitOf, isIn, runEnd};
 ghost use Rattle.text.specs.Strings.{letterOf, isControl, octalOf, escapeAt, caretAt, lineEndAt, itemAt, stored, readAt, bytesOf, contentOf};
 ghost use Rattle.text.specs.Lines.{lineAt, nextAt};
+ghost use Rattle.text.specs.declared.Class.the-variants as Classes;
 ghost use Rattle.lex.specs.Fits.{Fits};
+ghost use Rattle.lex.specs.Usual.{isPlain, isEscape, isSpecial, isUsual};
 use text::Base;
 use text::Class;
 use text::Content;
@@ -68,6 +70,34 @@ pub fn run_end(text: &[u8], class: Class, at: usize) -> usize
     let mut i = at;
     while i < text.len() {
         if !is_in(class, text[i]) {
+            return i;
+        }
+        i += 1;
+    }
+    i
+}
+
+// The same for a name: a loop for one class tests each byte quicker.
+pub fn name_end(text: &[u8], at: usize) -> usize
+    ensures { λ r. ⌜ r ≡ runEnd Classes.Name (now (text .entry)) at ⌝ }
+{
+    let mut i = at;
+    while i < text.len() {
+        if !is_in(Class::Name, text[i]) {
+            return i;
+        }
+        i += 1;
+    }
+    i
+}
+
+// The same for white space.
+fn blanks_end(text: &[u8], at: usize) -> usize
+    ensures { λ r. ⌜ r ≡ runEnd Classes.Blank (now (text .entry)) at ⌝ }
+{
+    let mut i = at;
+    while i < text.len() {
+        if !is_in(Class::Blank, text[i]) {
             return i;
         }
         i += 1;
@@ -184,26 +214,58 @@ pub fn item_at(text: &[u8], at: usize) -> Item
     }
 }
 
-// The string that starts at a place, its bytes counted.
+// A byte of a string that stands for itself.
+fn is_plain(b: u8) -> bool
+    ensures { λ r. ⌜ r ≡ isPlain b ⌝ }
+{
+    match b {
+        b',' | b'\\' | b'^' => false,
+        _ => 32 <= b && b <= 126,
+    }
+}
+
+// `\E` stands at a place.
+fn is_escape(text: &[u8], at: usize) -> bool
+    requires { ⌜ at < length (now text) ⌝ }
+    ensures { λ r. ⌜ r ≡ isEscape (now (text .entry)) at ⌝ }
+{
+    if text[at] == b'\\' {
+        return byte_at(text, at + 1) == b'E';
+    }
+    false
+}
+
+// The string that starts at a place, its bytes counted. Plain bytes, the comma and `\E`, the usual ones, are read here.
 pub fn content_at(text: &[u8], at: usize) -> Content
     ensures { λ r. ⌜ r ≡ contentOf (readAt (now (text .entry)) at) ⌝ }
 {
     let mut i = at;
     let mut n = 0;
     while i < text.len() {
-        match item_at(text, i) {
-            Item::End => {
-                return Content::Whole(n, i);
-            }
-            Item::Byte(_, k) => {
-                n += 1;
-                i = k;
-            }
-            Item::Removed(k) => {
-                i = k;
-            }
-            Item::Malformed => {
-                return Content::Malformed;
+        let c = text[i];
+        if is_plain(c) {
+            n += 1;
+            i += 1;
+        } else if c == b',' {
+            return Content::Whole(n, i);
+        } else if is_escape(text, i) {
+            n += 1;
+            i += 2;
+        } else {
+            match item_at(text, i) {
+                Item::End => {
+                    return Content::Whole(n, i);
+                }
+                Item::Byte(_, k) => {
+                    n += 1;
+                    i = k;
+                }
+                Item::Removed(k) => {
+                    i = k;
+                }
+                Item::Malformed => {
+                    return Content::Malformed;
+                }
             }
         }
     }
@@ -217,28 +279,50 @@ fn stored_byte(b: u8) -> u8
     if b == 0 { 128 } else { b }
 }
 
-// The bytes that the string at from stands for, put into a buffer from at on.
-pub fn put_read(b: &mut [u8], at: usize, text: &[u8], from: usize)
-    requires { ⌜ Fits (now b) at (now text) from ⌝ }
+// A byte of a string that is right, before its comma, that does not stand for itself.
+fn is_special(b: u8) -> bool
+    ensures { λ r. ⌜ r ≡ isSpecial b ⌝ }
+{
+    match b {
+        b'\\' | b'^' | 10 => true,
+        _ => false,
+    }
+}
+
+// The bytes that the string at from stands for, of which there are size, put into a buffer from at on.
+pub fn put_read(b: &mut [u8], at: usize, text: &[u8], from: usize, size: usize)
+    requires { ⌜ Fits (now b) at (now text) from size ⌝ }
     ensures { λ _. ⌜ now (b .exit) ≡ putAt (now (b .entry)) at (bytesOf (readAt (now (text .entry)) from)) ⌝ }
 {
     let mut i = from;
     let mut p = at;
-    while i < text.len() {
-        match item_at(text, i) {
-            Item::End => {
-                return;
-            }
-            Item::Byte(v, k) => {
-                b[p] = stored_byte(v);
-                p += 1;
-                i = k;
-            }
-            Item::Removed(k) => {
-                i = k;
-            }
-            Item::Malformed => {
-                return;
+    let end = at + size;
+    while p < end {
+        let c = text[i];
+        if !is_special(c) {
+            b[p] = c;
+            p += 1;
+            i += 1;
+        } else if is_escape(text, i) {
+            b[p] = 27;
+            p += 1;
+            i += 2;
+        } else {
+            match item_at(text, i) {
+                Item::End => {
+                    return;
+                }
+                Item::Byte(v, k) => {
+                    b[p] = stored_byte(v);
+                    p += 1;
+                    i = k;
+                }
+                Item::Removed(k) => {
+                    i = k;
+                }
+                Item::Malformed => {
+                    return;
+                }
             }
         }
     }
@@ -250,7 +334,7 @@ pub fn line_at(text: &[u8], at: usize) -> Line
 {
     let mut i = at;
     loop {
-        let j = run_end(text, Class::Blank, i);
+        let j = blanks_end(text, i);
         if text.len() <= j {
             return Line::End;
         }
@@ -267,11 +351,23 @@ pub fn line_at(text: &[u8], at: usize) -> Line
     }
 }
 
-// The same from the place past a comma.
-pub fn next_at(text: &[u8], at: usize) -> Line
+// A line end, one tab and a byte above white space and `#`: the usual line with a field.
+fn is_usual(text: &[u8], at: usize) -> bool
+    ensures { λ r. ⌜ r ≡ isUsual (now (text .entry)) at ⌝ }
+{
+    if byte_at(text, at) == 10 {
+        if byte_at(text, at + 1) == 9 {
+            return 36 <= byte_at(text, at + 2);
+        }
+    }
+    false
+}
+
+// What stands past the white space behind a comma.
+fn next_past_blanks(text: &[u8], at: usize) -> Line
     ensures { λ r. ⌜ r ≡ nextAt (now (text .entry)) at ⌝ }
 {
-    let j = run_end(text, Class::Blank, at);
+    let j = blanks_end(text, at);
     if text.len() <= j {
         return Line::End;
     }
@@ -279,4 +375,14 @@ pub fn next_at(text: &[u8], at: usize) -> Line
         return line_at(text, j + 1);
     }
     Line::Indented(j)
+}
+
+// What stands past blank lines and comment lines, from the place past a comma.
+pub fn next_at(text: &[u8], at: usize) -> Line
+    ensures { λ r. ⌜ r ≡ nextAt (now (text .entry)) at ⌝ }
+{
+    if is_usual(text, at) {
+        return Line::Indented(at + 2);
+    }
+    next_past_blanks(text, at)
 }

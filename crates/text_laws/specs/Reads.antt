@@ -2,16 +2,15 @@
 -- Assumes nothing.
 use mathlib.Core.Path.{_≡_, refl, sym, ap, _∙_, subst}
 use mathlib.Core.Bool.{Bool, true, false}
-use mathlib.Core.List.{List, [], _∷_, _++_}
+use mathlib.Core.List.{List, [], _∷_, _++_, append-assoc, append-nil}
 use Prim.Native.Nat.{ℕ, _+_, _-_, _*_, _≤_, _<_}
 use native.Mathlib.Omega.{arith}
-use native.Mathlib.Nat.{le-refl, add-zero}
+use native.Mathlib.Nat.{le-refl}
 use lib.Dec.{eqb, leb, ltb}
 use borrow.Author.Tests.{eq-eqb}
-use lib.ListN.{length, getD, set, length-append, List·getD-eq-default}
+use lib.ListN.{length, getD, length-append, List·getD-eq-default}
 use Rattle.base.specs.If.{if_then_else_, true-false, below-or}
 use Rattle.base.specs.Loop.{go, stop, loop-go, loop-stop, loop-ind}
-use Rattle.base.specs.Overwrite.{putAt, put-nil, put-store, length-put}
 use Rattle.base.specs.Tabulate.{Each}
 use Rattle.text.specs.declared.Class.the-variants as C
 use Rattle.text.specs.declared.Content.the-variants as W
@@ -215,16 +214,32 @@ from-free t =
 pub read-free : (t : List ℕ) (i : ℕ) → Each (λ (b : ℕ). b ≡ 0 → ⊥) (bytesOf (readAt t i))
 read-free t i = from-free t (record { at = i; bytes = [] }) tt
 
--- ---- the bytes that were read are at most those of the whole string
+-- ---- the bytes that were read are the first of the whole string's
 
-read-grows : (t : List ℕ) (s : Reading) → (readFrom t s ≡ malformed → ⊥) → length (s .bytes) ≤ length (bytesOf (readFrom t s))
+read-more : (t : List ℕ) (s : Reading) → (readFrom t s ≡ malformed → ⊥) → (more : List ℕ) × (s .bytes ++ more ≡ bytesOf (readFrom t s))
 unfolding bytesOf
-read-grows t =
-    read-ind t (λ (s : Reading) (r : Read). (r ≡ malformed → ⊥) → length (s .bytes) ≤ length (bytesOf r))
-    (λ s e w. le-refl (length (s .bytes)))
+read-more t =
+    read-ind t (λ (s : Reading) (r : Read). (r ≡ malformed → ⊥) → (more : List ℕ) × (s .bytes ++ more ≡ bytesOf r))
+    (λ s e w. ([], append-nil (s .bytes)))
     (λ s w. absurd (w refl))
-    (λ s r b k l h w. let g = h w in let n = length-append (s .bytes) (stored b ∷ []) in omega arith)
+    (λ s r b k l h w. let g = h w in (stored b ∷ g .0, sym (append-assoc (s .bytes) (stored b ∷ []) (g .0)) ∙ g .1))
     (λ s r k l h w. h w)
+
+pub read-grows : (t : List ℕ) (s : Reading) → (readFrom t s ≡ malformed → ⊥) → length (s .bytes) ≤ length (bytesOf (readFrom t s))
+read-grows t s w = let g = read-more t s w in let n = length-append (s .bytes) (g .0) in let m = ap length (g .1) in omega arith
+
+no-more : (xs : List ℕ) → length xs ≡ 0 → xs ≡ []
+no-more [] z = refl
+no-more (x ∷ xs) z = absurd (omega arith)
+
+-- a string all of whose bytes were read
+pub read-all : (t : List ℕ) (s : Reading) → (readFrom t s ≡ malformed → ⊥) → length (s .bytes) ≡ length (bytesOf (readFrom t s)) → s .bytes ≡ bytesOf (readFrom t s)
+read-all t s w q =
+    let g = read-more t s w in
+    let n = length-append (s .bytes) (g .0) in
+    let m = ap length (g .1) in
+    let z : length (g .0) ≡ 0 = omega arith in
+    sym (append-nil (s .bytes)) ∙ ap (λ (xs : List ℕ). s .bytes ++ xs) (sym (no-more (g .0) z)) ∙ g .1
 
 -- ---- counting: a string that starts at a place, read to i, of which n bytes are known
 
@@ -246,60 +261,3 @@ module _ (t : List ℕ) (at i n : ℕ) (s : Scanned t at i n) where
   pub scanned-malformed : itemAt t i ≡ Malformed → W.Malformed ≡ contentOf (readAt t at)
   unfolding contentOf
   scanned-malformed e = ap contentOf (sym (read-malformed t (record { at = i; bytes = s .0 }) e) ∙ s .2)
-
--- ---- putting: a string that starts at from, read to i, whose bytes so far stand in b, which was b₀, from at to p
-
-pub record Filled (t : List ℕ) (from i : ℕ) (b₀ b : List ℕ) (at p : ℕ) : Type 0 where
-  pub done : List ℕ
-  pub same : readFrom t (record { at = i; bytes = done }) ≡ readAt t from
-  pub place : p ≡ at + length done
-  pub held : b ≡ putAt b₀ at done
-
-pub filled-start : (t : List ℕ) (from : ℕ) (b : List ℕ) (at : ℕ) → Filled t from from b b at at
-filled-start t from b at = record { done = []; same = refl; place = sym (add-zero at); held = sym (put-nil b at) }
-
-module _ {t : List ℕ} {from i : ℕ} {b₀ b : List ℕ} {at p : ℕ} (f : Filled t from i b₀ b at p)
-    (right : readAt t from ≡ malformed → ⊥) (room : at + length (bytesOf (readAt t from)) ≤ length b₀) where
-  fits : at + length (f .done) ≤ length b₀
-  fits =
-      let g = read-grows t (record { at = i; bytes = f .done }) (λ z. right (sym (f .same) ∙ z)) in
-      let e = ap (λ (r : Read). length (bytesOf r)) (f .same) in
-      omega arith
-
-  pub filled-length : length b ≡ length b₀
-  filled-length = ap (λ (x : List ℕ). length x) (f .held) ∙ length-put b₀ at (f .done) fits
-
-  pub filled-removed : (k : ℕ) → itemAt t i ≡ Removed k → Filled t from k b₀ b at p
-  filled-removed k e = record {
-    done = f .done;
-    same = sym (read-removed t (record { at = i; bytes = f .done }) k e) ∙ f .same;
-    place = f .place;
-    held = f .held;
-  }
-
-  pub filled-end : itemAt t i ≡ End → b ≡ putAt b₀ at (bytesOf (readAt t from))
-  unfolding bytesOf
-  filled-end e = f .held ∙ ap (putAt b₀ at) (ap bytesOf (sym (read-end t (record { at = i; bytes = f .done }) e) ∙ f .same))
-
-  pub filled-malformed : itemAt t i ≡ Malformed → ⊥
-  filled-malformed e = right (sym (f .same) ∙ read-malformed t (record { at = i; bytes = f .done }) e)
-
-  module _ (v k : ℕ) (e : itemAt t i ≡ Byte v k) where
-    next : readFrom t (record { at = k; bytes = f .done ++ (stored v ∷ []) }) ≡ readAt t from
-    next = sym (read-byte t (record { at = i; bytes = f .done }) v k e) ∙ f .same
-
-    pub filled-room : p < length b₀
-    filled-room =
-        let g = read-grows t (record { at = k; bytes = f .done ++ (stored v ∷ []) }) (λ z. right (sym next ∙ z)) in
-        let q = ap (λ (r : Read). length (bytesOf r)) next in
-        let n = length-append (f .done) (stored v ∷ []) in
-        let h = f .place in
-        omega arith
-
-    pub filled-byte : Filled t from k b₀ (set b p (stored v)) at (p + 1)
-    filled-byte = record {
-      done = f .done ++ (stored v ∷ []);
-      same = next;
-      place = let n = length-append (f .done) (stored v ∷ []) in let h = f .place in omega arith;
-      held = put-store b₀ b at p (stored v) (f .done) (f .done ++ (stored v ∷ [])) (f .held) (f .place) refl filled-room;
-    }

@@ -1,7 +1,7 @@
 -- Runs of bytes of a class.
 -- Assumes nothing.
 use mathlib.Core.Path.{_≡_, refl, sym, ap, _∙_, subst}
-use mathlib.Core.Bool.{Bool, true, false}
+use mathlib.Core.Bool.{Bool, true, false, not, Bool·not-not}
 use mathlib.Core.List.{List, [], _∷_}
 use Prim.Native.Nat.{ℕ, zero, suc, _+_, _-_, _≤_, _<_}
 use native.Mathlib.Omega.{arith}
@@ -41,6 +41,18 @@ module _ (c : Class) (t : List ℕ) (i : ℕ) where
   pub run-fails : runEnd c t i < length t → isIn c (getD t (runEnd c t i) 0) ≡ false
   unfolding runEnd
   run-fails h = scan-fails (λ j. isIn c (getD t j 0)) i (length t - i) (let l = run-ge in let m = scan-le (λ j. isIn c (getD t j 0)) i (length t - i) in omega arith)
+
+-- a loop's turns: the run from a place has been followed to i, and b is the test of the byte there
+module _ (c : Class) (t : List ℕ) (from i : ℕ) (e : runEnd c t i ≡ runEnd c t from) where
+  module _ (b : Bool) (h : b ≡ isIn c (getD t i 0)) (l : i < length t) where
+    pub run-goes : not b ≡ false → runEnd c t (i + 1) ≡ runEnd c t from
+    run-goes n = sym (run-step c t i (sym h ∙ sym (Bool·not-not b) ∙ ap not n) l) ∙ e
+
+    pub run-stops : not b ≡ true → i ≡ runEnd c t from
+    run-stops n = sym (run-hit c t i (sym h ∙ sym (Bool·not-not b) ∙ ap not n) l) ∙ e
+
+  pub run-done : length t ≤ i → i ≡ runEnd c t from
+  run-done l = sym (run-end c t i l) ∙ e
 
 -- a byte that passes a test which 0 fails stands in the text
 pub within : (p : ℕ → Bool) → p 0 ≡ false → (t : List ℕ) (i : ℕ) → p (getD t i 0) ≡ true → i < length t

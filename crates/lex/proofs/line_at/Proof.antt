@@ -20,11 +20,11 @@ abbrev μ-loop : tie.MeasureT-loop
 loop-holds : tie.Need-loop-holds Inv-loop μ-loop
 loop-holds c = refl
 
-run-end-requires : tie.Need-run-end-requires Inv-loop μ-loop
-run-end-requires c κs = search needs
+blanks-end-requires : tie.Need-blanks-end-requires Inv-loop μ-loop
+blanks-end-requires c κs = search needs
 
 returns : tie.Need-returns Inv-loop μ-loop
-returns c = sym (lines-end _ _ _ (c .before .run-end .ensures) (c .if1 .taken)) ∙ c .before .before .loop .inv
+returns c = sym (lines-end _ _ _ (c .before .blanks-end .ensures) (c .if1 .taken)) ∙ c .before .before .loop .inv
 
 shared-slice-read-b : tie.Need-shared-slice-read-b Inv-loop μ-loop
 shared-slice-read-b c = search needs
@@ -34,34 +34,34 @@ add-i c = search needs
 
 loop-less : tie.Need-loop-less Inv-loop μ-loop
 loop-less c =
-    let g : c .before .before .before .before .loop .i ≤ c .before .before .before .run-end .result = rw (c .before .before .before .run-end .ensures) (run-ge _ _ _) in
+    let g : c .before .before .before .before .loop .i ≤ c .before .before .before .blanks-end .result = rw (c .before .before .before .blanks-end .ensures) (run-ge _ _ _) in
     omega arith
 
 loop-again : tie.Need-loop-again Inv-loop μ-loop
-loop-again c = sym (lines-blank _ _ _ (c .before .before .before .run-end .ensures) (c .before .before .if1 .left) (c .if2 .taken)) ∙ c .before .before .before .before .loop .inv
+loop-again c = sym (lines-blank _ _ _ (c .before .before .before .blanks-end .ensures) (c .before .before .if1 .left) (c .if2 .taken)) ∙ c .before .before .before .before .loop .inv
 
-run-end-requires-2 : tie.Need-run-end-requires-2 Inv-loop μ-loop
-run-end-requires-2 c κs = search needs
+run-end-requires : tie.Need-run-end-requires Inv-loop μ-loop
+run-end-requires c κs = search needs
 
 add-i-2 : tie.Need-add-i-2 Inv-loop μ-loop
 add-i-2 c =
-    let g : c .run-end2 .result ≤ length (now (c .before .before .before .before .before .before .before .before .args .text)) = rw (c .run-end2 .ensures) (run-le _ _ _ (le-of-lt (c .before .before .before .before .if1 .left))) in
+    let g : c .run-end .result ≤ length (now (c .before .before .before .before .before .before .before .before .args .text)) = rw (c .run-end .ensures) (run-le _ _ _ (le-of-lt (c .before .before .before .before .if1 .left))) in
     omega arith
 
 loop-less-2 : tie.Need-loop-less-2 Inv-loop μ-loop
 loop-less-2 c =
-    let g : c .before .before .before .before .before .before .loop .i ≤ c .before .before .before .before .before .run-end .result = rw (c .before .before .before .before .before .run-end .ensures) (run-ge _ _ _) in
-    let h : c .before .before .before .before .before .run-end .result ≤ c .run-end2 .result = rw (c .run-end2 .ensures) (run-ge _ _ _) in
+    let g : c .before .before .before .before .before .before .loop .i ≤ c .before .before .before .before .before .blanks-end .result = rw (c .before .before .before .before .before .blanks-end .ensures) (run-ge _ _ _) in
+    let h : c .before .before .before .before .before .blanks-end .result ≤ c .run-end .result = rw (c .run-end .ensures) (run-ge _ _ _) in
     omega arith
 
 loop-again-2 : tie.Need-loop-again-2 Inv-loop μ-loop
-loop-again-2 c = rw (c .run-end2 .ensures) (sym (lines-comment _ _ _ (c .before .before .before .before .before .run-end .ensures) (c .before .before .before .before .if1 .left) (c .before .before .if2 .left) (c .before .if3 .taken)) ∙ c .before .before .before .before .before .before .loop .inv)
+loop-again-2 c = rw (c .run-end .ensures) (sym (lines-comment _ _ _ (c .before .before .before .before .before .blanks-end .ensures) (c .before .before .before .before .if1 .left) (c .before .before .if2 .left) (c .before .if3 .taken)) ∙ c .before .before .before .before .before .before .loop .inv)
 
 returns-2 : tie.Need-returns-2 Inv-loop μ-loop
-returns-2 c = sym (lines-column _ _ _ (c .before .before .before .before .before .run-end .ensures) (c .before .before .before .before .if1 .left) (c .before .before .if2 .left) (c .before .if3 .left) (c .if4 .taken)) ∙ c .before .before .before .before .before .before .loop .inv
+returns-2 c = sym (lines-column _ _ _ (c .before .before .before .before .before .blanks-end .ensures) (c .before .before .before .before .if1 .left) (c .before .before .if2 .left) (c .before .if3 .left) (c .if4 .taken)) ∙ c .before .before .before .before .before .before .loop .inv
 
 returns-3 : tie.Need-returns-3 Inv-loop μ-loop
-returns-3 c = sym (lines-indented _ _ _ (c .before .before .before .before .before .run-end .ensures) (c .before .before .before .before .if1 .left) (c .before .before .if2 .left) (c .before .if3 .left) (c .if4 .left)) ∙ c .before .before .before .before .before .before .loop .inv
+returns-3 c = sym (lines-indented _ _ _ (c .before .before .before .before .before .blanks-end .ensures) (c .before .before .before .before .if1 .left) (c .before .before .if2 .left) (c .before .if3 .left) (c .if4 .left)) ∙ c .before .before .before .before .before .before .loop .inv
 
 pub line-at-spec : {M : Type 1} → statement M
 line-at-spec =
@@ -70,13 +70,13 @@ line-at-spec =
     Inv-loop
     μ-loop
     loop-holds
-    run-end-requires
+    blanks-end-requires
     returns
     shared-slice-read-b
     add-i
     loop-less
     loop-again
-    run-end-requires-2
+    run-end-requires
     add-i-2
     loop-less-2
     loop-again-2

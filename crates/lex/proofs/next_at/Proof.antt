@@ -1,41 +1,32 @@
-use borrow.Author.Tests.{le-leb, lt-leb, eq-eqb, ne-eqb}
-use Rattle.text.specs.Lines.{nextAt}
+use mathlib.Core.Path.{refl, sym, _∙_}
+use native.Mathlib.Omega.{arith}
+use denote.Ref.{now}
 use borrow.Author.Needs.{needs}
+use Rattle.lex.specs.UsualLaws.{usual-within, next-usual}
 use Rattle.lex.proofs.next_at.Statement.{statement}
 use Rattle.lex.proofs.next_at.Tie as tie
 
-run-end-requires : tie.Need-run-end-requires
-run-end-requires c κs = search needs
+is-usual-requires : tie.Need-is-usual-requires
+is-usual-requires c κs = search needs
+
+add-t4 : tie.Need-add-t4
+add-t4 c = omega (arith, usual-within (now (c .before .before .before .args .text)) (c .before .before .before .args .at) (sym (c .before .is-usual .ensures) ∙ c .if1 .taken))
 
 returns : tie.Need-returns
-unfolding nextAt
-returns c = simp (← (c .before .run-end .ensures), le-leb _ _ (c .if1 .taken))
+returns c = sym (next-usual (now (c .before .before .before .args .text)) (c .before .before .before .args .at) (sym (c .before .is-usual .ensures) ∙ c .if1 .taken))
 
-shared-slice-read-if2 : tie.Need-shared-slice-read-if2
-shared-slice-read-if2 c = search needs
-
-add-line-at : tie.Need-add-line-at
-add-line-at c = search needs
-
-line-at-requires : tie.Need-line-at-requires
-line-at-requires c κs = search needs
+next-past-blanks-requires : tie.Need-next-past-blanks-requires
+next-past-blanks-requires c κs = search needs
 
 returns-2 : tie.Need-returns-2
-unfolding nextAt
-returns-2 c = simp (← (c .before .before .before .before .run-end .ensures), lt-leb _ _ (c .before .before .before .if1 .left), eq-eqb _ _ (c .before .if2 .taken), c .line-at .ensures)
-
-returns-3 : tie.Need-returns-3
-unfolding nextAt
-returns-3 c = simp (← (c .before .before .before .run-end .ensures), lt-leb _ _ (c .before .before .if1 .left), ne-eqb _ _ (c .if2 .left))
+returns-2 c = c .next-past-blanks .ensures
 
 pub next-at-spec : {M : Type 1} → statement M
 next-at-spec =
     tie.close
     (tie.spec
-    run-end-requires
+    is-usual-requires
+    add-t4
     returns
-    shared-slice-read-if2
-    add-line-at
-    line-at-requires
-    returns-2
-    returns-3)
+    next-past-blanks-requires
+    returns-2)

@@ -1,12 +1,11 @@
 use native.Mathlib.Omega.{arith}
 use Prim.Native.Nat.{_-_}
-use mathlib.Core.Path.{_≡_, refl, sym, ap, _∙_}
-use mathlib.Core.Bool.{not, Bool·not-not}
-use lib.ListN.{length, getD}
+use mathlib.Core.Path.{_≡_, refl}
+use lib.ListN.{length}
 use borrow.Author.Needs.{needs}
 use denote.Ref.{now}
-use Rattle.text.specs.Bytes.{isIn, runEnd}
-use Rattle.text_laws.specs.Runs.{run-step, run-hit, run-end}
+use Rattle.text.specs.Bytes.{runEnd}
+use Rattle.text_laws.specs.Runs.{run-goes, run-stops, run-done}
 use Rattle.lex.proofs.run_end.Statement.{statement}
 use Rattle.lex.proofs.run_end.Tie as tie
 
@@ -26,10 +25,7 @@ is-in-requires : tie.Need-is-in-requires Inv-loop μ-loop
 is-in-requires c κs = search needs
 
 returns : tie.Need-returns Inv-loop μ-loop
-returns c =
-    let t = now (c .before .before .before .before .before .before .args .text) in
-    let other = sym (c .before .is-in .ensures) ∙ sym (Bool·not-not (c .before .is-in .result)) ∙ ap not (c .if1 .taken) in
-    sym (run-hit (c .before .before .before .before .before .before .args .class) t (c .before .before .before .before .loop .i) other (c .before .before .before .loop-test .taken)) ∙ c .before .before .before .before .loop .inv
+returns c = run-stops (c .before .before .before .before .before .before .args .class) (now (c .before .before .before .before .before .before .args .text)) _ _ (c .before .before .before .before .loop .inv) _ (c .before .is-in .ensures) (c .before .before .before .loop-test .taken) (c .if1 .taken)
 
 add-i : tie.Need-add-i Inv-loop μ-loop
 add-i c = omega arith
@@ -38,15 +34,10 @@ loop-less : tie.Need-loop-less Inv-loop μ-loop
 loop-less c = omega arith
 
 loop-again : tie.Need-loop-again Inv-loop μ-loop
-loop-again c =
-    let t = now (c .before .before .before .before .before .before .args .text) in
-    let inside = sym (c .before .is-in .ensures) ∙ sym (Bool·not-not (c .before .is-in .result)) ∙ ap not (c .if1 .left) in
-    sym (run-step (c .before .before .before .before .before .before .args .class) t (c .before .before .before .before .loop .i) inside (c .before .before .before .loop-test .taken)) ∙ c .before .before .before .before .loop .inv
+loop-again c = run-goes (c .before .before .before .before .before .before .args .class) (now (c .before .before .before .before .before .before .args .text)) _ _ (c .before .before .before .before .loop .inv) _ (c .before .is-in .ensures) (c .before .before .before .loop-test .taken) (c .if1 .left)
 
 returns-2 : tie.Need-returns-2 Inv-loop μ-loop
-returns-2 c =
-    let t = now (c .before .before .before .args .text) in
-    sym (run-end (c .before .before .before .args .class) t (c .before .loop .i) (c .loop-test .left)) ∙ c .before .loop .inv
+returns-2 c = run-done (c .before .before .before .args .class) (now (c .before .before .before .args .text)) _ _ (c .before .loop .inv) (c .loop-test .left)
 
 pub run-end-spec : {M : Type 1} → statement M
 run-end-spec =

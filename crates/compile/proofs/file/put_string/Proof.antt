@@ -25,7 +25,7 @@ put-read-requires c κs =
     let z = bytes-present (a .kind) (a .size) (c .before .if1 .left) in
     let q = s .counted in
     let f = c .before .before .before .before .pre .0 in
-    record { whole = s .whole; room = omega arith }
+    record { whole = s .whole; counted = s .counted; room = omega arith }
 
 add-b : tie.Need-add-b
 add-b c =
