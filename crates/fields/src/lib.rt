@@ -1,11 +1,12 @@
 // Fields and headers of source text (document 01: Source text). Proved: each function answers every text and place as text/specs says.
 // Assumed: nothing.
 ghost use mathlib.Core.Path.{_≡_};
-ghost use Prim.Native.Nat.{_+_, _-_, _≤_, _<_, min};
+ghost use Prim.Native.Nat.{_+_, _-_, _≤_, _<_, _^_, min};
 ghost use lib.ListN.{length};
 ghost use Rattle.text.specs.Bytes.{baseOf};
 ghost use Rattle.text.specs.Numbers.{numberMost, withDigits, digitsAt, numberAt};
 ghost use Rattle.text.specs.Fields.{formAt, namedAt, fieldAt};
+ghost use Rattle.fields.specs.Bases.{baseAt, firstDigit};
 use text::Base;
 use text::Class;
 use text::Content;
@@ -62,19 +63,40 @@ fn digits_at(text: &[u8], base: Base, at: usize) -> Formed
     Formed::Right(Form::Number(value as u32), past)
 }
 
+// The base of the number at a place.
+fn base_at(text: &[u8], at: usize) -> Base
+    requires { ⌜ at ≤ length (now text) ⌝ }
+    ensures { λ r. ⌜ r ≡ baseAt (now (text .entry)) at ⌝ }
+{
+    if lex::byte_at(text, at) != b'0' {
+        return Base::Decimal;
+    }
+    let x = lex::byte_at(text, at + 1);
+    match x {
+        b'x' | b'X' => Base::Hexadecimal,
+        _ => Base::Octal,
+    }
+}
+
+// The first digit of a number at a place: `0x` is no part of the digits.
+fn first_digit(base: Base, at: usize) -> usize
+    requires { ⌜ at + 2 < 2 ^ 64 ⌝ }
+    ensures { λ r. ⌜ r ≡ firstDigit base at ⌝ }
+{
+    match base {
+        Base::Octal => at,
+        Base::Decimal => at,
+        Base::Hexadecimal => at + 2,
+    }
+}
+
 // The number at a place.
 fn number_at(text: &[u8], at: usize) -> Formed
     requires { ⌜ at ≤ length (now text) ⌝ }
     ensures { λ r. ⌜ r ≡ numberAt (now (text .entry)) at ⌝ }
 {
-    if lex::byte_at(text, at) != b'0' {
-        return digits_at(text, Base::Decimal, at);
-    }
-    let x = lex::byte_at(text, at + 1);
-    match x {
-        b'x' | b'X' => digits_at(text, Base::Hexadecimal, at + 2),
-        _ => digits_at(text, Base::Octal, at),
-    }
+    let base = base_at(text, at);
+    digits_at(text, base, first_digit(base, at))
 }
 
 // What stands behind a name.
@@ -100,7 +122,7 @@ fn named_at(text: &[u8], dropped: bool, at: usize) -> Field
     requires { ⌜ at ≤ length (now text) ⌝ }
     ensures { λ r. ⌜ r ≡ namedAt (now (text .entry)) dropped at ⌝ }
 {
-    let end = lex::run_end(text, Class::Name, at);
+    let end = lex::name_end(text, at);
     if end == at {
         return Field::Malformed;
     }
@@ -126,8 +148,7 @@ pub fn field_at(text: &[u8], at: usize) -> Field
     requires { ⌜ at < length (now text) ⌝ }
     ensures { λ r. ⌜ r ≡ fieldAt (now (text .entry)) at ⌝ }
 {
-    if text[at] == b'.' {
-        return named_at(text, true, at + 1);
-    }
-    named_at(text, false, at)
+    let dropped = text[at] == b'.';
+    let name = if dropped { at + 1 } else { at };
+    named_at(text, dropped, name)
 }
