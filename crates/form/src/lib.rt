@@ -1,148 +1,161 @@
-// Whether a parameterized string is well formed, and passing over items (document 01: Expansion; Numbers of refusal, 14). Proved: `form_of`
-// is formOf and `pass` is passed, of the crate expansion, for each string. Assumed: nothing.
-// Both are a walk over the classes of the items, with a number kept along it. Passing over keeps how many inner conditionals are open.
-// The check keeps the open conditionals themselves, two bits each, the innermost lowest: 1 a condition from `%?` on, 2 a body, 3 what
-// follows `%e`.
+// The form of a parameterized string, checked item by item, and passing over items (document 01: Expansion; Numbers of refusal, 14).
+// Proved: `nest` is nested, `form_from` is formLeft and `pass` is as PassedAs says, of specs/, for each string and place. Assumed: nothing.
+// The number kept along the items holds the open conditionals, two bits each, the innermost lowest: 1 a condition from `%?` on, 2 a body,
+// 3 what follows `%e`.
 use expansion::Class;
 use expansion::Form;
 ghost use mathlib.Core.Path.{_≡_};
-ghost use Prim.Native.Nat.{_<_};
-ghost use lib.ListN.{length};
-ghost use Rattle.expansion.specs.declared.Class.the-variants.{If, Then, Else, End};
-ghost use Rattle.expansion.specs.Form.{formOf};
-ghost use Rattle.expansion.specs.Machine.{passed};
-ghost use Rattle.form.specs.Walk.{turned, walked, keptMost};
+ghost use Prim.Native.Nat.{_≤_, _<_};
+ghost use Rattle.form.specs.Walk.{nestedMost, keptMost, nested, formLeft, opening, plainEnd, endsAt, WalkedAs, PassedAs};
 
-// The check's number from which on 16 conditionals are open.
+// The number from which on 16 conditionals are open.
 const NEST_FULL: u64 = 1073741824;
 
-// What an item does to the number kept: go on with another, or stop at the item.
-enum Turn {
+// What an item does to a number kept: go on with another, or stop.
+pub enum Turn {
     Go(u64),
     Stop,
 }
 
-// Where a walk stopped and the place behind that item, or where it ended and the number kept.
+// Where a walk stopped or ended, with the number kept there; or the place of a wrong item.
 enum Walked {
-    Stopped { at: usize, next: usize },
-    Ended { at: usize, kept: u64 },
+    Stopped { next: usize, kept: u64 },
+    Ended { next: usize, kept: u64 },
+    Wrong(usize),
 }
 
-fn at_if(checks: bool, elses: bool, kept: u64) -> Turn
-    requires { ⌜ kept < keptMost ⌝ }
-    ensures { λ r. ⌜ r ≡ turned checks elses If kept ⌝ }
-{
-    if checks {
-        if kept < NEST_FULL {
-            return Turn::Go(kept * 4 + 1);
-        }
-        return Turn::Stop;
-    }
-    Turn::Go(kept + 1)
+// The place passed to with the number kept there; or the place of a wrong item.
+pub enum Passed {
+    To { next: usize, kept: u64 },
+    Wrong(usize),
 }
 
-fn at_then(checks: bool, elses: bool, kept: u64) -> Turn
-    requires { ⌜ kept < keptMost ⌝ }
-    ensures { λ r. ⌜ r ≡ turned checks elses Then kept ⌝ }
-{
-    if checks {
-        if kept % 2 == 1 {
-            return Turn::Go(kept / 4 * 4 + 2);
-        }
-        return Turn::Stop;
-    }
-    Turn::Go(kept)
-}
-
-fn at_else(checks: bool, elses: bool, kept: u64) -> Turn
-    requires { ⌜ kept < keptMost ⌝ }
-    ensures { λ r. ⌜ r ≡ turned checks elses Else kept ⌝ }
-{
-    if checks {
-        if kept % 4 == 2 {
-            return Turn::Go(kept + 1);
-        }
-        return Turn::Stop;
-    }
-    if kept == 0 {
-        if elses {
-            return Turn::Stop;
-        }
-    }
-    Turn::Go(kept)
-}
-
-fn at_end(checks: bool, elses: bool, kept: u64) -> Turn
-    requires { ⌜ kept < keptMost ⌝ }
-    ensures { λ r. ⌜ r ≡ turned checks elses End kept ⌝ }
-{
-    if checks {
-        if kept % 4 < 2 {
-            return Turn::Stop;
-        }
-        return Turn::Go(kept / 4);
-    }
-    if kept == 0 {
-        return Turn::Stop;
-    }
-    Turn::Go(kept - 1)
-}
-
-fn turn_at(checks: bool, elses: bool, class: Class, kept: u64) -> Turn
-    requires { ⌜ kept < keptMost ⌝ }
-    ensures { λ r. ⌜ r ≡ turned checks elses class kept ⌝ }
+// What an item of a class does to the open conditionals.
+pub fn nest(class: Class, kept: u64) -> Turn
+    requires { ⌜ kept ≤ nestedMost ⌝ }
+    ensures { λ r. ⌜ r ≡ nested class kept ⌝ }
 {
     match class {
         Class::Plain => Turn::Go(kept),
-        Class::If => at_if(checks, elses, kept),
-        Class::Then => at_then(checks, elses, kept),
-        Class::Else => at_else(checks, elses, kept),
-        Class::End => at_end(checks, elses, kept),
-        Class::Wrong => if checks { Turn::Stop } else { Turn::Go(kept) },
+        Class::If => if kept < NEST_FULL { Turn::Go(kept * 4 + 1) } else { Turn::Stop },
+        Class::Then => if kept % 2 == 1 { Turn::Go(kept / 4 * 4 + 2) } else { Turn::Stop },
+        Class::Else => if kept % 4 == 2 { Turn::Go(kept + 1) } else { Turn::Stop },
+        Class::End => if kept % 4 < 2 { Turn::Stop } else { Turn::Go(kept / 4) },
+        Class::Wrong => Turn::Stop,
     }
 }
 
-// The walk from a place on. Checks: the check of the whole form; otherwise passing over, where elses is whether the level's own `%e` stops.
-fn walk(s: &[u8], from: usize, checks: bool, elses: bool) -> Walked
-    ensures { λ r. ⌜ r ≡ walked (length (now (s .entry))) checks elses (now (s .entry)) from 0 ⌝ }
+// What an item of a class does to the number of inner conditionals open; at 0, ends says whether `%;` stops and elses whether `%e` does.
+fn opened(class: Class, ends: bool, elses: bool, inner: u64) -> Turn
+    requires { ⌜ inner < keptMost ⌝ }
+    ensures { λ r. ⌜ r ≡ opening ends elses class inner ⌝ }
+{
+    match class {
+        Class::Plain => Turn::Go(inner),
+        Class::If => Turn::Go(inner + 1),
+        Class::Then => Turn::Go(inner),
+        Class::Else => if inner == 0 {
+            if elses { Turn::Stop } else { Turn::Go(inner) }
+        } else {
+            Turn::Go(inner)
+        },
+        Class::End => if inner == 0 {
+            if ends { Turn::Stop } else { Turn::Go(inner) }
+        } else {
+            Turn::Go(inner - 1)
+        },
+        Class::Wrong => Turn::Go(inner),
+    }
+}
+
+// Checks the items from a place on, up to the first at which `opened` stops.
+fn walk(s: &[u8], from: usize, before: u64, ends: bool, elses: bool) -> Walked
+    requires { ⌜ before ≤ nestedMost ⌝ }
+    ensures { λ r. ⌜ WalkedAs (now (s .entry)) from before ends elses r ⌝ }
 {
     let mut i: usize = from;
-    let mut kept: u64 = 0;
+    let mut kept: u64 = before;
+    let mut inner: u64 = 0;
     while i < s.len() {
         let c = items::classes::class_at(s, i);
         let class = c.class;
         let next = c.next;
-        match turn_at(checks, elses, class, kept) {
-            Turn::Go(k) => {
-                kept = k;
-                i = next;
-            }
-            Turn::Stop => return Walked::Stopped { at: i, next: next },
+        match nest(class, kept) {
+            Turn::Go(k) => match opened(class, ends, elses, inner) {
+                Turn::Go(n) => {
+                    i = next;
+                    kept = k;
+                    inner = n;
+                }
+                Turn::Stop => return Walked::Stopped { next: next, kept: k },
+            },
+            Turn::Stop => return Walked::Wrong(i),
         }
     }
-    Walked::Ended { at: i, kept: kept }
+    Walked::Ended { next: i, kept: kept }
 }
 
-// Whether a string is well formed; if not, the place of its first wrong item.
-pub fn form_of(s: &[u8]) -> Form
-    ensures { λ r. ⌜ r ≡ formOf (now (s .entry)) ⌝ }
+// The place behind the bytes from a place on that are items by themselves.
+fn plain_end(s: &[u8], from: usize) -> usize
+    ensures { λ r. ⌜ r ≡ plainEnd (now (s .entry)) from ⌝ }
 {
-    match walk(s, 0, true, false) {
-        Walked::Stopped { at, next: _ } => Form::Wrong(at),
-        Walked::Ended { at: _, kept } => if kept == 0 {
+    let mut i: usize = from;
+    while i < s.len() {
+        if s[i] == b'%' {
+            return i;
+        }
+        if s[i] == 0 {
+            return i;
+        }
+        i += 1;
+    }
+    i
+}
+
+// Whether `%;` stands at a place.
+fn is_end(s: &[u8], i: usize) -> bool
+    ensures { λ r. ⌜ r ≡ endsAt (now (s .entry)) i ⌝ }
+{
+    if i < s.len() {
+        if s[i] == b'%' {
+            if i + 1 < s.len() {
+                return s[i + 1] == b';';
+            }
+        }
+    }
+    false
+}
+
+// Checks the items that are passed over from a place on: up to the level's `%;`, or its own `%e` where elses is set, and with it.
+pub fn pass(s: &[u8], from: usize, kept: u64, elses: bool) -> Passed
+    requires { ⌜ kept ≤ nestedMost ⌝ }
+    ensures { λ r. ⌜ PassedAs (now (s .entry)) from kept elses r ⌝ }
+{
+    let i = plain_end(s, from);
+    if is_end(s, i) {
+        if 2 <= kept % 4 {
+            return Passed::To { next: i + 2, kept: kept / 4 };
+        }
+    }
+    match walk(s, i, kept, true, elses) {
+        Walked::Stopped { next, kept } => Passed::To { next: next, kept: kept },
+        Walked::Ended { next, kept } => Passed::To { next: next, kept: kept },
+        Walked::Wrong(p) => Passed::Wrong(p),
+    }
+}
+
+// The form of a string from a place on.
+pub fn form_from(s: &[u8], from: usize, kept: u64) -> Form
+    requires { ⌜ kept ≤ nestedMost ⌝ }
+    ensures { λ r. ⌜ r ≡ formLeft (now (s .entry)) from kept ⌝ }
+{
+    match walk(s, from, kept, false, false) {
+        Walked::Stopped { next: _, kept: _ } => Form::Right,
+        Walked::Ended { next: _, kept } => if kept == 0 {
             Form::Right
         } else {
             Form::Wrong(s.len())
         },
-    }
-}
-
-// The place behind the item at which passing over stops: the level's `%;`, or its own `%e` where elses is set.
-pub fn pass(s: &[u8], i: usize, elses: bool) -> usize
-    ensures { λ r. ⌜ r ≡ passed (length (now (s .entry))) elses (now (s .entry)) i 0 ⌝ }
-{
-    match walk(s, i, false, elses) {
-        Walked::Stopped { at: _, next } => next,
-        Walked::Ended { at, kept: _ } => at,
+        Walked::Wrong(p) => Form::Wrong(p),
     }
 }
