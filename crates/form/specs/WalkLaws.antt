@@ -12,7 +12,6 @@ use borrow.Author.Tests.{lt-ltb, le-ltb, ltb-true, eq-eqb, ne-eqb, eqb-true}
 use Rattle.base.specs.If.{if_then_else_, below-or}
 use Rattle.expansion.specs.declared.Class.{Class}
 use Rattle.expansion.specs.declared.Class.the-variants.{Plain, If, Then, Else, End, Wrong}
-use Rattle.expansion.specs.declared.Form.{Form}
 use Rattle.expansion.specs.declared.Form.the-variants as F
 use Rattle.expansion.specs.Form.{classAt, Level, condition, body, otherwise, Nesting, levels, misplaced, afterIf, afterThen, afterElse, afterEnd, nesting, formFrom, formOf}
 use Rattle.items.proofs.Laws.{item-on}
@@ -64,27 +63,28 @@ left-end s i k h = checked-end (length s) s i k h
 
 -- ---- the number kept stays small
 
-abbrev keptOf : Turn → ℕ
+abbrev pub keptOf : Turn → ℕ
 keptOf Stop = 0
 keptOf (Go k) = k
 
-kept-if : (b : Bool) (x y : Turn) → (b ≡ true → keptOf x ≤ nestedMost) → (b ≡ false → keptOf y ≤ nestedMost) → keptOf (if b then x else y) ≤ nestedMost
-kept-if true x y p q = p refl
-kept-if false x y p q = q refl
+pub kept-if : (n : ℕ) (b : Bool) (x y : Turn) → (b ≡ true → keptOf x ≤ n) → (b ≡ false → keptOf y ≤ n) → keptOf (if b then x else y) ≤ n
+kept-if n true x y p q = p refl
+kept-if n false x y p q = q refl
+
+pub kept-go : (n k : ℕ) (t : Turn) → keptOf t ≤ n → t ≡ Go k → k ≤ n
+kept-go n k t h q = let p : keptOf t ≡ k = ap keptOf q in rw (← p) h
 
 kept-most : (c : Class) (k : ℕ) → k ≤ nestedMost → keptOf (nested c k) ≤ nestedMost
 unfolding nested
 kept-most Plain k b = b
-kept-most If k b = kept-if (ltb k 1073741824) _ _ (λ q. omega (arith, ltb-true k 1073741824 q)) (λ q. omega arith)
-kept-most Then k b = kept-if (eqb (k % 2) 1) _ _ (λ q. omega arith) (λ q. omega arith)
-kept-most Else k b = kept-if (eqb (k % 4) 2) _ _ (λ q. omega (arith, eqb-true (k % 4) 2 q)) (λ q. omega arith)
-kept-most End k b = kept-if (ltb (k % 4) 2) _ _ (λ q. omega arith) (λ q. omega arith)
+kept-most If k b = kept-if nestedMost (ltb k 1073741824) _ _ (λ q. omega (arith, ltb-true k 1073741824 q)) (λ q. omega arith)
+kept-most Then k b = kept-if nestedMost (eqb (k % 2) 1) _ _ (λ q. omega arith) (λ q. omega arith)
+kept-most Else k b = kept-if nestedMost (eqb (k % 4) 2) _ _ (λ q. omega (arith, eqb-true (k % 4) 2 q)) (λ q. omega arith)
+kept-most End k b = kept-if nestedMost (ltb (k % 4) 2) _ _ (λ q. omega arith) (λ q. omega arith)
 kept-most Wrong k b = omega arith
 
 pub nested-most : (c : Class) (k k′ : ℕ) → k ≤ nestedMost → nested c k ≡ Go k′ → k′ ≤ nestedMost
-nested-most c k k′ b q =
-    let p : keptOf (nested c k) ≡ k′ = ap keptOf q in
-    rw (← p) (kept-most c k b)
+nested-most c k k′ b q = kept-go nestedMost k′ (nested c k) (kept-most c k b) q
 
 -- ---- the number kept is the open conditionals of formFrom
 

@@ -37,10 +37,26 @@ pub fn nest(class: Class, kept: u64) -> Turn
 {
     match class {
         Class::Plain => Turn::Go(kept),
-        Class::If => if kept < NEST_FULL { Turn::Go(kept * 4 + 1) } else { Turn::Stop },
-        Class::Then => if kept % 2 == 1 { Turn::Go(kept / 4 * 4 + 2) } else { Turn::Stop },
-        Class::Else => if kept % 4 == 2 { Turn::Go(kept + 1) } else { Turn::Stop },
-        Class::End => if kept % 4 < 2 { Turn::Stop } else { Turn::Go(kept / 4) },
+        Class::If => if kept < NEST_FULL {
+            Turn::Go(kept * 4 + 1)
+        } else {
+            Turn::Stop
+        },
+        Class::Then => if kept % 2 == 1 {
+            Turn::Go(kept / 4 * 4 + 2)
+        } else {
+            Turn::Stop
+        },
+        Class::Else => if kept % 4 == 2 {
+            Turn::Go(kept + 1)
+        } else {
+            Turn::Stop
+        },
+        Class::End => if kept % 4 < 2 {
+            Turn::Stop
+        } else {
+            Turn::Go(kept / 4)
+        },
         Class::Wrong => Turn::Stop,
     }
 }
@@ -87,12 +103,18 @@ fn walk(s: &[u8], from: usize, before: u64, ends: bool, elses: bool) -> Walked
                     kept = k;
                     inner = n;
                 }
-                Turn::Stop => return Walked::Stopped { next: next, kept: k },
+                Turn::Stop => return Walked::Stopped {
+                    next: next,
+                    kept: k,
+                },
             },
             Turn::Stop => return Walked::Wrong(i),
         }
     }
-    Walked::Ended { next: i, kept: kept }
+    Walked::Ended {
+        next: i,
+        kept: kept,
+    }
 }
 
 // The place behind the bytes from a place on that are items by themselves.
@@ -134,12 +156,21 @@ pub fn pass(s: &[u8], from: usize, kept: u64, elses: bool) -> Passed
     let i = plain_end(s, from);
     if is_end(s, i) {
         if 2 <= kept % 4 {
-            return Passed::To { next: i + 2, kept: kept / 4 };
+            return Passed::To {
+                next: i + 2,
+                kept: kept / 4,
+            };
         }
     }
     match walk(s, i, kept, true, elses) {
-        Walked::Stopped { next, kept } => Passed::To { next: next, kept: kept },
-        Walked::Ended { next, kept } => Passed::To { next: next, kept: kept },
+        Walked::Stopped { next, kept } => Passed::To {
+            next: next,
+            kept: kept,
+        },
+        Walked::Ended { next, kept } => Passed::To {
+            next: next,
+            kept: kept,
+        },
         Walked::Wrong(p) => Passed::Wrong(p),
     }
 }

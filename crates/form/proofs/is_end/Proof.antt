@@ -1,40 +1,35 @@
+-- `form::is_end` meets its contract: the tests are the definition's, and a place past the end reads as 0.
+-- Assumes nothing.
+use lib.ListN.{List·getD-eq-default}
+use borrow.Author.Tests.{ne-eqb}
+use Rattle.expansion.specs.Items.{byteAt}
 use borrow.Author.Needs.{needs}
 use Rattle.form.proofs.is_end.Statement.{statement}
 use Rattle.form.proofs.is_end.Tie as tie
-use Rattle.form.proofs.is_end.Reads as reads
-use Rattle.form.proofs.is_end.Lts as lts
 
--- src/lib.rt:120:12
 shared-slice-read-if2 : tie.Need-shared-slice-read-if2
 shared-slice-read-if2 c = search needs
 
--- src/lib.rt:121:16
 add-if3 : tie.Need-add-if3
 add-if3 c = search needs
 
--- src/lib.rt:122:26
 add-result : tie.Need-add-result
 add-result c = search needs
 
--- src/lib.rt:122:24
 shared-slice-read-result : tie.Need-shared-slice-read-result
 shared-slice-read-result c = search needs
 
--- src/lib.rt:122:17
 returns : tie.Need-returns
-returns c = ?
+returns c = rw (c .before .before .if2 .taken)
 
--- src/lib.rt:116:1
 returns-2 : tie.Need-returns-2
-returns-2 c = ?
+returns-2 c = let a = c .before .before .before .before .args in rw (c .before .if2 .taken, List·getD-eq-default (a .s .now) 0 (c .if3 .left))
 
--- src/lib.rt:116:1
 returns-3 : tie.Need-returns-3
-returns-3 c = ?
+returns-3 c = let a = c .before .before .before .args in rw (ne-eqb (byteAt (a .s .now) (a .i)) 37 (c .if2 .left))
 
--- src/lib.rt:116:1
 returns-4 : tie.Need-returns-4
-returns-4 c = ?
+returns-4 c = let a = c .before .args in rw (List·getD-eq-default (a .s .now) 0 (c .if1 .left))
 
 pub is-end-spec : {M : Type 1} → statement M
 is-end-spec =

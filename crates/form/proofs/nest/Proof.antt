@@ -1,92 +1,84 @@
+-- `form::nest` meets its contract: the tests are the definition's.
+-- Assumes nothing.
+use Prim.Native.Nat.{_%_}
+use borrow.Author.Tests.{lt-ltb, le-ltb, eq-eqb, ne-eqb}
+use Rattle.form.specs.Walk.{nested}
 use borrow.Author.Needs.{needs}
 use Rattle.form.proofs.nest.Statement.{statement}
 use Rattle.form.proofs.nest.Tie as tie
-use Rattle.form.proofs.nest.Reads as reads
-use Rattle.form.proofs.nest.Lts as lts
 
--- src/lib.rt:39:25
 enum-told : tie.Need-enum-told
 enum-told c = search needs
 
--- src/lib.rt:40:25
 enum-told-2 : tie.Need-enum-told-2
 enum-told-2 c = search needs
 
--- src/lib.rt:40:53
 mul-t6 : tie.Need-mul-t6
 mul-t6 c = search needs
 
--- src/lib.rt:40:53
 add-t7 : tie.Need-add-t7
 add-t7 c = search needs
 
--- src/lib.rt:41:27
 enum-told-3 : tie.Need-enum-told-3
 enum-told-3 c = search needs
 
--- src/lib.rt:41:52
 mul-t12 : tie.Need-mul-t12
 mul-t12 c = search needs
 
--- src/lib.rt:41:52
 add-t13 : tie.Need-add-t13
 add-t13 c = search needs
 
--- src/lib.rt:42:27
 enum-told-4 : tie.Need-enum-told-4
 enum-told-4 c = search needs
 
--- src/lib.rt:42:52
 add-t17 : tie.Need-add-t17
 add-t17 c = search needs
 
--- src/lib.rt:43:26
 enum-told-5 : tie.Need-enum-told-5
 enum-told-5 c = search needs
 
--- src/lib.rt:44:25
 enum-told-6 : tie.Need-enum-told-6
 enum-told-6 c = search needs
 
--- src/lib.rt:34:1
 returns : tie.Need-returns
-returns c = ?
+unfolding nested
+returns c = rw (c .enum-told .given .1)
 
--- src/lib.rt:34:1
 returns-2 : tie.Need-returns-2
-returns-2 c = ?
+unfolding nested
+returns-2 c = rw (c .before .enum-told2 .given .1, lt-ltb (c .before .before .before .args .kept) 1073741824 (c .if1 .taken))
 
--- src/lib.rt:34:1
 returns-3 : tie.Need-returns-3
-returns-3 c = ?
+unfolding nested
+returns-3 c = rw (c .before .enum-told2 .given .1, le-ltb (c .before .before .before .args .kept) 1073741824 (c .if1 .left))
 
--- src/lib.rt:34:1
 returns-4 : tie.Need-returns-4
-returns-4 c = ?
+unfolding nested
+returns-4 c = rw (c .before .enum-told3 .given .1, eq-eqb (c .before .before .before .args .kept % 2) 1 (c .if2 .taken))
 
--- src/lib.rt:34:1
 returns-5 : tie.Need-returns-5
-returns-5 c = ?
+unfolding nested
+returns-5 c = rw (c .before .enum-told3 .given .1, ne-eqb (c .before .before .before .args .kept % 2) 1 (c .if2 .left))
 
--- src/lib.rt:34:1
 returns-6 : tie.Need-returns-6
-returns-6 c = ?
+unfolding nested
+returns-6 c = rw (c .before .enum-told4 .given .1, eq-eqb (c .before .before .before .args .kept % 4) 2 (c .if3 .taken))
 
--- src/lib.rt:34:1
 returns-7 : tie.Need-returns-7
-returns-7 c = ?
+unfolding nested
+returns-7 c = rw (c .before .enum-told4 .given .1, ne-eqb (c .before .before .before .args .kept % 4) 2 (c .if3 .left))
 
--- src/lib.rt:34:1
 returns-8 : tie.Need-returns-8
-returns-8 c = ?
+unfolding nested
+returns-8 c = rw (c .before .enum-told5 .given .1, lt-ltb (c .before .before .before .args .kept % 4) 2 (c .if4 .taken))
 
--- src/lib.rt:34:1
 returns-9 : tie.Need-returns-9
-returns-9 c = ?
+unfolding nested
+returns-9 c = rw (c .before .enum-told5 .given .1, le-ltb (c .before .before .before .args .kept % 4) 2 (c .if4 .left))
 
--- src/lib.rt:34:1
 returns-10 : tie.Need-returns-10
-returns-10 c = ?
+unfolding nested
+returns-10 c = rw (c .enum-told6 .given .1)
 
 pub nest-spec : {M : Type 1} → statement M
 nest-spec =

@@ -1,49 +1,46 @@
+-- `form::plain_end` meets its contract. The loop's invariant: the scan from here gives what the scan from the start gives.
+-- The measure is what is left of the string. Assumes nothing.
+use mathlib.Core.Path.{_≡_, refl, sym, _∙_}
+use Prim.Native.Nat.{_-_}
+use native.Mathlib.Omega.{arith}
+use lib.ListN.{length}
+use Rattle.form.specs.Walk.{plainEnd}
+use Rattle.form.proofs.Laws.{plain-more, plain-percent, plain-nul, plain-none}
 use Rattle.form.proofs.plain_end.Statement.{statement}
 use Rattle.form.proofs.plain_end.Tie as tie
-use Rattle.form.proofs.plain_end.Reads as reads
-use Rattle.form.proofs.plain_end.Lts as lts
 
 abbrev Inv-loop : tie.InvT-loop
-Inv-loop s from i₀ i = ?
+Inv-loop s from i₀ i = plainEnd s from ≡ plainEnd s i
 
 abbrev μ-loop : tie.MeasureT-loop
-μ-loop s from i₀ i = ?
+μ-loop s from i₀ i = length s - i
 
--- src/lib.rt:103:5
 loop-holds : tie.Need-loop-holds Inv-loop μ-loop
-loop-holds c = ?
+loop-holds c = refl
 
--- src/lib.rt:104:12
 shared-slice-read-if1 : tie.Need-shared-slice-read-if1 Inv-loop μ-loop
-shared-slice-read-if1 c = ?
+shared-slice-read-if1 c = omega arith
 
--- src/lib.rt:105:13
 returns : tie.Need-returns Inv-loop μ-loop
-returns c = ?
+returns c = sym (c .before .before .before .loop .inv ∙ plain-percent (c .before .before .before .before .args .s .now) (c .before .before .before .loop .i) (c .before .before .loop-test .taken) (c .if1 .taken))
 
--- src/lib.rt:107:12
 shared-slice-read-if2 : tie.Need-shared-slice-read-if2 Inv-loop μ-loop
-shared-slice-read-if2 c = ?
+shared-slice-read-if2 c = omega arith
 
--- src/lib.rt:108:13
 returns-2 : tie.Need-returns-2 Inv-loop μ-loop
-returns-2 c = ?
+returns-2 c = sym (c .before .before .before .before .before .loop .inv ∙ plain-nul (c .before .before .before .before .before .before .args .s .now) (c .before .before .before .before .before .loop .i) (c .before .before .before .before .loop-test .taken) (c .if2 .taken))
 
--- src/lib.rt:110:9
 add-i : tie.Need-add-i Inv-loop μ-loop
-add-i c = ?
+add-i c = omega arith
 
--- src/lib.rt:103:5
 loop-less : tie.Need-loop-less Inv-loop μ-loop
-loop-less c = ?
+loop-less c = omega arith
 
--- src/lib.rt:103:5
 loop-again : tie.Need-loop-again Inv-loop μ-loop
-loop-again c = ?
+loop-again c = c .before .before .before .before .before .loop .inv ∙ plain-more (c .before .before .before .before .before .before .args .s .now) (c .before .before .before .before .before .loop .i) (c .before .before .before .before .loop-test .taken) (c .before .before .if1 .left) (c .if2 .left)
 
--- src/lib.rt:99:1
 returns-3 : tie.Need-returns-3 Inv-loop μ-loop
-returns-3 c = ?
+returns-3 c = sym (c .before .loop .inv ∙ plain-none (c .before .before .args .s .now) (c .before .loop .i) (c .loop-test .left))
 
 pub plain-end-spec : {M : Type 1} → statement M
 plain-end-spec =
