@@ -61,7 +61,7 @@ pub fn nest(class: Class, kept: u64) -> Turn
     }
 }
 
-// What an item of a class does to the number of inner conditionals open; at 0, ends says whether `%;` stops and elses whether `%e` does.
+// What an item of a class does to the number of inner conditionals open; at 0, `%;` stops if ends is set, and `%e` if elses is.
 fn opened(class: Class, ends: bool, elses: bool, inner: u64) -> Turn
     requires { ⌜ inner < keptMost ⌝ }
     ensures { λ r. ⌜ r ≡ opening ends elses class inner ⌝ }
@@ -84,7 +84,7 @@ fn opened(class: Class, ends: bool, elses: bool, inner: u64) -> Turn
     }
 }
 
-// Checks the items from a place on, up to the first at which `opened` stops.
+// Checks the items from a place on, up to and with the first at which `opened` stops.
 fn walk(s: &[u8], from: usize, before: u64, ends: bool, elses: bool) -> Walked
     requires { ⌜ before ≤ nestedMost ⌝ }
     ensures { λ r. ⌜ WalkedAs (now (s .entry)) from before ends elses r ⌝ }
@@ -148,7 +148,7 @@ fn is_end(s: &[u8], i: usize) -> bool
     false
 }
 
-// Checks the items that are passed over from a place on: up to the level's `%;`, or its own `%e` where elses is set, and with it.
+// Checks the items passed over from a place on, up to and with the level's `%;`, or its own `%e` where elses is set.
 pub fn pass(s: &[u8], from: usize, kept: u64, elses: bool) -> Passed
     requires { ⌜ kept ≤ nestedMost ⌝ }
     ensures { λ r. ⌜ PassedAs (now (s .entry)) from kept elses r ⌝ }
@@ -175,7 +175,7 @@ pub fn pass(s: &[u8], from: usize, kept: u64, elses: bool) -> Passed
     }
 }
 
-// The form of a string from a place on.
+// The form of a string from a place on. This walk stops at no item.
 pub fn form_from(s: &[u8], from: usize, kept: u64) -> Form
     requires { ⌜ kept ≤ nestedMost ⌝ }
     ensures { λ r. ⌜ r ≡ formLeft (now (s .entry)) from kept ⌝ }
