@@ -77,10 +77,13 @@ opening-passing e End zero = refl
 opening-passing e End (suc d) = rw (ne-eqb (suc d) 0 (λ q. omega arith)) (ap Go (omega arith))
 opening-passing e Wrong d = refl
 
+go-stop : {k : ℕ} → Go k ≡ Stop → ⊥
+go-stop e = let z : _≡_ {A = ℕ} 0 1 = cc in omega arith
+
 passing-of : (p q : Passing) → passingTurn p ≡ passingTurn q → p ≡ q
 passing-of stops stops e = refl
-passing-of stops (opens d) e = absurd (let z : _≡_ {A = ℕ} 0 1 = cc in (let y : ⊥ = omega arith in y))
-passing-of (opens d) stops e = absurd (let z : _≡_ {A = ℕ} 0 1 = cc in (let y : ⊥ = omega arith in y))
+passing-of stops (opens d) e = absurd (go-stop (sym e))
+passing-of (opens d) stops e = absurd (go-stop e)
 passing-of (opens d) (opens d′) e = let z : d ≡ d′ = cc in ap opens z
 
 -- one conditional more at most
@@ -97,14 +100,14 @@ opening-more b e Wrong d = omega arith
 -- a walk that is to stop nowhere goes on
 opening-on : (c : Class) (d : ℕ) → opening false false c d ≡ Stop → ⊥
 unfolding opening
-opening-on Plain d q = let z : _≡_ {A = ℕ} 0 1 = cc in omega arith
-opening-on If d q = let z : _≡_ {A = ℕ} 0 1 = cc in omega arith
-opening-on Then d q = let z : _≡_ {A = ℕ} 0 1 = cc in omega arith
-opening-on Else zero q = let z : _≡_ {A = ℕ} 0 1 = cc in omega arith
-opening-on Else (suc d) q = let r = rw (ne-eqb (suc d) 0 (λ x. omega arith)) at q in let z : _≡_ {A = ℕ} 0 1 = cc in omega arith
-opening-on End zero q = let z : _≡_ {A = ℕ} 0 1 = cc in omega arith
-opening-on End (suc d) q = let r = rw (ne-eqb (suc d) 0 (λ x. omega arith)) at q in let z : _≡_ {A = ℕ} 0 1 = cc in omega arith
-opening-on Wrong d q = let z : _≡_ {A = ℕ} 0 1 = cc in omega arith
+opening-on Plain d q = go-stop q
+opening-on If d q = go-stop q
+opening-on Then d q = go-stop q
+opening-on Else zero q = go-stop q
+opening-on Else (suc d) q = go-stop (rw (ne-eqb (suc d) 0 (λ x. omega arith)) at q)
+opening-on End zero q = go-stop q
+opening-on End (suc d) q = go-stop (rw (ne-eqb (suc d) 0 (λ x. omega arith)) at q)
+opening-on Wrong d q = go-stop q
 
 opening-stop : (b e : Bool) (c : Class) (d : ℕ) → opening b e c d ≡ Stop → (b || e) ≡ true
 opening-stop true e c d q = refl
@@ -164,9 +167,13 @@ unfolding classAt classOf itemAt
 class-plain s i p =
     rw (not-true (eqb (byteAt s i) 0) (and-left (not (eqb (byteAt s i) 0)) (not (eqb (byteAt s i) 37)) p), not-true (eqb (byteAt s i) 37) (and-right (not (eqb (byteAt s i) 0)) (not (eqb (byteAt s i) 37)) p))
 
-class-end : (s : List ℕ) (i : ℕ) → byteAt s i ≡ 37 → byteAt s (i + 1) ≡ 59 → classAt s i ≡ record { class = End; next = i + 2 }
+class-end : (s : List ℕ) (i : ℕ) → endsAt s i ≡ true → classAt s i ≡ record { class = End; next = i + 2 }
 unfolding classAt classOf itemAt percentAt found singles
-class-end s i p q = let n : i + 1 + 1 ≡ i + 2 = omega arith in rw (p, q, n)
+class-end s i t =
+    let p : byteAt s i ≡ 37 = eqb-true (byteAt s i) 37 (and-left (eqb (byteAt s i) 37) (eqb (byteAt s (i + 1)) 59) t) in
+    let q : byteAt s (i + 1) ≡ 59 = eqb-true (byteAt s (i + 1)) 59 (and-right (eqb (byteAt s i) 37) (eqb (byteAt s (i + 1)) 59) t) in
+    let n : i + 1 + 1 ≡ i + 2 = omega arith in
+    rw (p, q, n)
 
 -- what each plain byte leaves as it is, all of them do
 plain-same {ℓ} : {A : Type ℓ} (s : List ℕ) (g : ℕ → A) → ((i : ℕ) → i < length s → isPlain (byteAt s i) ≡ true → g i ≡ g (i + 1))
@@ -199,11 +206,8 @@ plain-more s i h p q =
     let e : length s - i - 1 ≡ length s - (i + 1) = omega arith in
     scan-pass (λ k. isPlain (byteAt s k)) i (length s - i) (rw (ne-eqb (byteAt s i) 0 q, ne-eqb (byteAt s i) 37 p)) (omega arith) ∙ rw e
 
-pub plain-percent : (s : List ℕ) (i : ℕ) → i < length s → byteAt s i ≡ 37 → plainEnd s i ≡ i
-plain-percent s i h p = scan-stop (λ k. isPlain (byteAt s k)) i (length s - i) (rw p) (omega arith)
-
-pub plain-nul : (s : List ℕ) (i : ℕ) → i < length s → byteAt s i ≡ 0 → plainEnd s i ≡ i
-plain-nul s i h p = scan-stop (λ k. isPlain (byteAt s k)) i (length s - i) (rw p) (omega arith)
+pub plain-stop : (s : List ℕ) (i : ℕ) → i < length s → isPlain (byteAt s i) ≡ false → plainEnd s i ≡ i
+plain-stop s i h p = scan-stop (λ k. isPlain (byteAt s k)) i (length s - i) p (omega arith)
 
 pub plain-none : (s : List ℕ) (i : ℕ) → length s ≤ i → plainEnd s i ≡ i
 unfolding scan
@@ -225,16 +229,12 @@ end-inside s i t =
     let q : byteAt s (i + 1) ≡ 59 = eqb-true (byteAt s (i + 1)) 59 (and-right (eqb (byteAt s i) 37) (eqb (byteAt s (i + 1)) 59) t) in
     below-or (i + 1) (length s) (λ l. l) (λ l. let z : byteAt s (i + 1) ≡ 0 = List·getD-eq-default s 0 l in absurd (let y : ⊥ = omega arith in y))
 
-end-class : (s : List ℕ) (i : ℕ) → endsAt s i ≡ true → classAt s i ≡ record { class = End; next = i + 2 }
-end-class s i t =
-    class-end s i (eqb-true (byteAt s i) 37 (and-left (eqb (byteAt s i) 37) (eqb (byteAt s (i + 1)) 59) t)) (eqb-true (byteAt s (i + 1)) 59 (and-right (eqb (byteAt s i) 37) (eqb (byteAt s (i + 1)) 59) t))
-
 pub pass-end : (e : Bool) (s : List ℕ) (i k : ℕ) → k ≤ nestedMost → endsAt s i ≡ true → 2 ≤ k % 4 → PassedAs s i k e (P.To (i + 2) (k / 4))
 unfolding nested passing
 pass-end e s i k b t h =
     let l : i < length s = omega (arith, end-inside s i t) in (
-      pass-stop e s i 0 l (rw (end-class s i t)) ∙ rw (end-class s i t),
-      (left-go s i k (k / 4) l (rw (end-class s i t, le-ltb (k % 4) 2 h)) ∙ rw (end-class s i t), (omega arith, omega arith)),
+      pass-stop e s i 0 l (rw (class-end s i t)) ∙ rw (class-end s i t),
+      (left-go s i k (k / 4) l (rw (class-end s i t, le-ltb (k % 4) 2 h)) ∙ rw (class-end s i t), (omega arith, omega arith)),
     )
 
 pub came-passed : (e : Bool) (s : List ℕ) (i k j k′ : ℕ) → Came s i k true e j k′ → PassedAs s i k e (P.To j k′)
