@@ -3,8 +3,8 @@
 use mathlib.Core.Path.{_≡_, refl, sym, ap, _∙_}
 use mathlib.Core.Bool.{Bool, true, false, _&&_, not}
 use mathlib.Core.List.{List, [], _∷_, _++_}
-use Prim.Native.Nat.{ℕ, zero, suc, _+_, _-_, _*_, _^_, _≤_, _<_, min}
-use native.Mathlib.Nat.{pow-suc, not-suc-le-zero, le-of-suc-le-suc}
+use Prim.Native.Nat.{ℕ, zero, suc, _+_, _-_, _*_, _≤_, _<_, min}
+use native.Mathlib.Nat.{not-suc-le-zero, le-of-suc-le-suc}
 use native.Mathlib.Decide.{ℕ-discrete}
 use native.Mathlib.Omega.{arith}
 use lib.Dec.{eqb, leb, ltb, lit<, lit≤}
@@ -43,14 +43,6 @@ word-more zero w f p h = let e : 0 + w ≡ w = omega arith in rw e (word-past w 
 word-more (suc v) w f p h =
     let e : suc v + w ≡ suc (v + w) = omega arith in
     rw e (ap (λ (x : ℕ). getD f p 0 + 256 * x) (word-more v w f (suc p) (omega arith)))
-
-pub word-below : (w : ℕ) (f : List ℕ) (p : ℕ) → Bytes f → word w f p < 256 ^ w
-unfolding word
-word-below zero f p b = lit< tt
-word-below (suc w) f p b =
-    let h = word-below w f (suc p) b in
-    let l = b p in
-    rw (pow-suc 256 w) (omega arith)
 
 -- equal words have equal bytes
 word-each : (w : ℕ) (m n : List ℕ) (p : ℕ) → Bytes m → Bytes n → word w m p ≡ word w n p → (j : ℕ) → j < w → getD m (p + j) 0 ≡ getD n (p + j) 0

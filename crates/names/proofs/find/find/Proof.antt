@@ -1,7 +1,7 @@
 -- `names::find::find` meets its contract: the place of the name's number in the table tells its list and its place there.
 use denote.Ref.{now}
 use mathlib.Core.Path.{_≡_, ap, _∙_}
-use Prim.Native.Nat.{ℕ, _-_, _≤_, _<_}
+use Prim.Native.Nat.{_-_, _≤_, _<_}
 use native.Mathlib.Omega.{arith}
 use borrow.Author.Needs.{needs}
 use Rattle.names.specs.declared.Found.the-variants as F
