@@ -1,42 +1,39 @@
--- Laws of output, of the stack in an array, of steps, and of a run by steps.
+-- Laws of output, of the stack in an array, of a run by steps, and of the check along it.
 -- Assumes nothing.
-use mathlib.Core.Path.{_≡_, refl, sym, ap, ap₂, _∙_}
+use mathlib.Core.Path.{_≡_, refl, sym, ap, ap₂, _∙_, subst}
 use mathlib.Core.Bool.{Bool, true, false}
 use mathlib.Core.List.{List, [], _∷_, _++_, append-nil}
 use Prim.Native.Nat.{ℕ, zero, suc, _+_, _-_, _*_, _≤_, _<_}
 use native.Mathlib.Numerals.{add-one}
 use native.Mathlib.Omega.{arith}
-use lib.Dec.{leb, ltb}
 use lib.IntN.{ℤ, pos}
 use lib.ListN.{length, getD, set, drop, length-append, length-set}
 use lib.Seq.{getD-set-same, getD-set-other}
-use borrow.Author.Tests.{lt-ltb, le-ltb, ltb-true}
-use Rattle.base.specs.If.{if_then_else_}
+use borrow.Author.Tests.{lt-ltb, le-ltb, eq-eqb, ne-eqb}
 use Rattle.base.specs.Overwrite.{putAt, put-nil, put-put}
-use Rattle.signed.specs.Signed.{isZero}
 use Rattle.expansion.specs.declared.Item.{Item}
-use Rattle.expansion.specs.declared.Item.the-variants as I
 use Rattle.expansion.specs.declared.Lexed.{Lexed}
+use Rattle.expansion.specs.declared.Class.{Class}
+use Rattle.expansion.specs.declared.Form.the-variants as F
 use Rattle.expansion.specs.Limits.{stackMost, printedMost}
 use Rattle.expansion.specs.Items.{itemAt}
-use Rattle.expansion.specs.Form.{classAt}
+use Rattle.expansion.specs.Form.{classOf, classAt, formOf}
 use Rattle.expansion.specs.Emit.{emitted}
-use Rattle.expansion.specs.Machine.{Value, Machine, Effect, prints, pushes, stores, increments, toElse, toEnd, goesOn, empty, full, withStack, arity, effect, loaded, stored, incremented, performed, taking, Passing, stops, opens, passing, passed, finished, failed, running}
+use Rattle.expansion.specs.Machine.{Value, Machine, Effect, prints, pushes, stores, increments, toElse, toEnd, goesOn, empty, full, withStack, arity, effect, performed, taking, passed, finished, failed, running}
 use Rattle.print.specs.EmitLaws.{emitted-fits, length-emitted}
 use Rattle.items.proofs.Laws.{item-on}
-use Rattle.expand.specs.declared.Step.{Step}
-use Rattle.expand.specs.declared.Step.the-variants.{Push, Go}
-use Rattle.expand.specs.Steps.{topDown, machine, stepOf, afterThen, machineAfter, printedBy, SteppedAs}
+use Rattle.form.specs.declared.Turn.{Turn}
+use Rattle.form.specs.declared.Turn.the-variants as T
+use Rattle.form.specs.declared.Passed.{Passed}
+use Rattle.form.specs.declared.Passed.the-variants as P
+use Rattle.form.specs.Walk.{nestedMost, nested, formLeft, PassedAs}
+use Rattle.form.specs.WalkLaws.{left-start, left-go, left-stop, left-end, nested-most}
+use Rattle.machine.specs.declared.Step.{Step}
+use Rattle.machine.specs.declared.Step.the-variants.{Push, Go, Pass}
+use Rattle.machine.specs.Steps.{machine, stepOf, machineAfter, printedBy, SteppedAs}
+use Rattle.machine.proofs.Laws.{effect-same, arguments-kept}
 
 -- ---- output
-
-pub emitted-nothing : (b : List ℕ) (at : ℕ) → b ≡ emitted b at []
-unfolding emitted
-emitted-nothing b at = by-test (leb (at + 0) (length b))
-  where
-    by-test : (t : Bool) → b ≡ (if t then putAt b at [] else b)
-    by-test true = sym (put-nil b at)
-    by-test false = refl
 
 -- behind o, which was put from the first byte on if it fits
 emitted-on : (b b′ o xs : List ℕ) → length b′ ≡ length b → (length o ≤ length b → b′ ≡ putAt b 0 o) → length (o ++ xs) ≤ length b
@@ -47,6 +44,11 @@ emitted-on b b′ o xs e w h =
     emitted-fits b′ (length o) xs (omega arith) ∙ rw (w (omega arith)) (rw z at (put-put b 0 o xs (omega arith)))
 
 -- ---- a stack in an array
+
+-- an array's first n elements, the last of them first
+unfoldable pub topDown : {A : Type 0} → A → List A → ℕ → List A
+topDown z l zero = []
+topDown z l (suc n) = getD l n z ∷ topDown z l n
 
 topDown-length : {A : Type 0} (z : A) (l : List A) (n : ℕ) → length (topDown z l n) ≡ n
 unfolding topDown
@@ -74,42 +76,6 @@ topDown-at z l zero k h = absurd (let y : ⊥ = omega arith in y)
 topDown-at z l (suc n) zero h = let e : suc n - (0 + 1) ≡ n = omega arith in rw e
 topDown-at z l (suc n) (suc k) h = let e : suc n - (suc k + 1) ≡ n - (k + 1) = omega arith in rw e (topDown-at z l n k (omega arith))
 
--- ---- a step
-
-pub no-more : (next w : ℕ) → Go next w ≡ Go next (w + 0)
-no-more next w = ap (Go next) (omega arith)
-
--- a step of `%t` that popped b
-pub stepped-then : (s : List ℕ) (next w : ℕ) (m : Machine) (a b : Value) (c : List ℕ) (n : ℕ) → n ≡ afterThen s next b
-    → SteppedAs (effect I.Then m a b) s next w m m c c (Go n w)
-unfolding effect stepOf machineAfter printedBy
-stepped-then s next w m a b c n e = by-test (isZero b) refl
-  where
-    by-test : (t : Bool) → isZero b ≡ t → SteppedAs (effect I.Then m a b) s next w m m c c (Go n w)
-    by-test true q = rw q (record { step = ap (λ (k : ℕ). Go k w) (rw q at e); after = refl; output = emitted-nothing c w; short = omega arith })
-    by-test false q = rw q (record { step = ap (λ (k : ℕ). Go k w) (rw q at e) ∙ no-more next w; after = refl; output = emitted-nothing c w; short = omega arith })
-
--- an item's effect looks at no other values of the stack than those that it pops
-effect-same : (k : Item) (st st′ : List Value) (x y z : List ℤ) (a a′ b b′ : Value) → (0 < arity k → b ≡ b′) → (1 < arity k → a ≡ a′)
-    → effect k (machine st x y z) a b ≡ effect k (machine st′ x y z) a′ b′
-unfolding effect arity loaded
-effect-same (I.Byte c) st st′ x y z a a′ b b′ h g = refl
-effect-same (I.Argument n) st st′ x y z a a′ b b′ h g = refl
-effect-same (I.Number d f w) st st′ x y z a a′ b b′ h g = rw (h (omega arith))
-effect-same I.Character st st′ x y z a a′ b b′ h g = rw (h (omega arith))
-effect-same (I.Constant v) st st′ x y z a a′ b b′ h g = refl
-effect-same (I.Store c) st st′ x y z a a′ b b′ h g = rw (h (omega arith))
-effect-same (I.Load c) st st′ x y z a a′ b b′ h g = refl
-effect-same (I.Binary o) st st′ x y z a a′ b b′ h g = rw (h (omega arith), g (omega arith))
-effect-same I.Not st st′ x y z a a′ b b′ h g = rw (h (omega arith))
-effect-same I.Invert st st′ x y z a a′ b b′ h g = rw (h (omega arith))
-effect-same I.Increment st st′ x y z a a′ b b′ h g = refl
-effect-same I.If st st′ x y z a a′ b b′ h g = refl
-effect-same I.Then st st′ x y z a a′ b b′ h g = rw (h (omega arith))
-effect-same I.Else st st′ x y z a a′ b b′ h g = refl
-effect-same I.End st st′ x y z a a′ b b′ h g = refl
-effect-same I.Wrong st st′ x y z a a′ b b′ h g = refl
-
 -- the machine whose stack is an array's first d elements
 abbrev pub over : List Value → ℕ → List ℤ → List ℤ → List ℤ → Machine
 over st d x y z = machine (topDown (pos 0) st d) x y z
@@ -134,22 +100,6 @@ module _ (k : Item) (st : List Value) (d : ℕ) (x y z : List ℤ) where
       (λ l. topDown-at (pos 0) st d 0 (omega arith) ∙ sym (p .top l)) (λ l. topDown-at (pos 0) st d 1 (omega arith) ∙ sym (p .below l)) in
       rw (topDown-length (pos 0) st d, le-ltb d (arity k) (p .enough), e, topDown-drop (pos 0) st d (arity k) (p .enough), p .left)
 
--- ---- passing over items leads on
-
-pub passed-on : (f : ℕ) (elses : Bool) (s : List ℕ) (i d : ℕ) → i ≤ passed f elses s i d
-unfolding passed classAt
-passed-on zero elses s i d = omega arith
-passed-on (suc f) elses s i d = by-test (ltb i (length s)) refl (λ n. passed-on f elses s (itemAt s i .next) n)
-  where
-    by-class : i < length s → (p : Passing) → passing elses (classAt s i .class) d ≡ p → ((n : ℕ) → itemAt s i .next ≤ passed f elses s (itemAt s i .next) n)
-        → i ≤ passed (suc f) elses s i d
-    by-class l stops q g = rw (passed, lt-ltb i (length s) l, q) (omega (arith, item-on s i l))
-    by-class l (opens n) q g = rw (passed, lt-ltb i (length s) l, q) (omega (arith, item-on s i l, g n))
-
-    by-test : (t : Bool) → ltb i (length s) ≡ t → ((n : ℕ) → itemAt s i .next ≤ passed f elses s (itemAt s i .next) n) → i ≤ passed (suc f) elses s i d
-    by-test true t g = by-class (ltb-true i (length s) t) (passing elses (classAt s i .class) d) refl g
-    by-test false t g = rw (passed, t) (omega arith)
-
 -- ---- a run by steps
 
 module _ (f : ℕ) (s : List ℕ) (i : ℕ) (m : Machine) (o : List ℕ) (n : ℕ) (k : Lexed) (q : itemAt s i ≡ k) (h : i < length s) where
@@ -157,30 +107,40 @@ module _ (f : ℕ) (s : List ℕ) (i : ℕ) (m : Machine) (o : List ℕ) (n : �
   unfolding running
   turn-empty e = rw (running, lt-ltb i (length s) h, q, e)
 
-  turn-go : (e : Effect) (m′ : Machine) (w j w′ : ℕ) → taking (k .item) m ≡ performed e m′ → stepOf e s (k .next) w ≡ Go j w′
-      → (running (suc f) s i m o n ≡ running f s j (machineAfter e m′) (o ++ printedBy e) (n + 1)) × (w′ ≡ w + length (printedBy e)) × (k .next ≤ j)
+  -- the run goes on at j, behind the item's effect e on m′, with w′ bytes printed
+  pub record Turned (e : Effect) (m′ : Machine) (w j w′ : ℕ) : Type 0 where
+    pub runs : running (suc f) s i m o n ≡ running f s j (machineAfter e m′) (o ++ printedBy e) (n + 1)
+    pub counted : w′ ≡ w + length (printedBy e)
+    pub on : k .next ≤ j
+
+  turn-go : (e : Effect) (m′ : Machine) (w w′ : ℕ) → taking (k .item) m ≡ performed e m′ → stepOf e w ≡ Go w′ → Turned e m′ w (k .next) w′
   unfolding running performed stepOf machineAfter printedBy
-  turn-go (prints bytes) m′ w j w′ t g =
-      let y : j ≡ k .next = cc in
+  turn-go (prints bytes) m′ w w′ t g =
       let l : w′ ≡ w + length bytes = cc in
-      (rw (running, lt-ltb i (length s) h, q, t, q, y) refl, l, omega arith)
-  turn-go (pushes v) m′ w j w′ t g = absurd (let y : _≡_ {A = ℕ} 0 1 = cc in (let z : ⊥ = omega arith in z))
-  turn-go (stores c v) m′ w j w′ t g =
-      let y : j ≡ k .next = cc in
+      record { runs = rw (running, lt-ltb i (length s) h, q, t, q) refl; counted = l; on = omega arith }
+  turn-go (pushes v) m′ w w′ t g = absurd (let y : _≡_ {A = ℕ} 0 1 = cc in (let z : ⊥ = omega arith in z))
+  turn-go (stores c v) m′ w w′ t g =
       let l : w′ ≡ w = cc in
-      (rw (running, lt-ltb i (length s) h, q, t, q, y) refl, omega arith, omega arith)
-  turn-go increments m′ w j w′ t g =
-      let y : j ≡ k .next = cc in
+      record { runs = rw (running, lt-ltb i (length s) h, q, t, q) refl; counted = omega arith; on = omega arith }
+  turn-go increments m′ w w′ t g =
       let l : w′ ≡ w = cc in
-      (rw (running, lt-ltb i (length s) h, q, t, q, y) refl, omega arith, omega arith)
-  turn-go toElse m′ w j w′ t g =
+      record { runs = rw (running, lt-ltb i (length s) h, q, t, q) refl; counted = omega arith; on = omega arith }
+  turn-go toElse m′ w w′ t g = absurd (let y : _≡_ {A = ℕ} 0 1 = cc in (let z : ⊥ = omega arith in z))
+  turn-go toEnd m′ w w′ t g = absurd (let y : _≡_ {A = ℕ} 0 1 = cc in (let z : ⊥ = omega arith in z))
+
+  turn-pass : (e : Effect) (m′ : Machine) (w j : ℕ) (elses : Bool) → taking (k .item) m ≡ performed e m′ → stepOf e w ≡ Pass elses
+      → passed (length s) elses s (k .next) 0 ≡ j → k .next ≤ j → Turned e m′ w j w
+  unfolding running performed stepOf machineAfter printedBy
+  turn-pass (prints bytes) m′ w j elses t g p l = absurd (let y : _≡_ {A = ℕ} 0 1 = cc in (let z : ⊥ = omega arith in z))
+  turn-pass (pushes v) m′ w j elses t g p l = absurd (let y : _≡_ {A = ℕ} 0 1 = cc in (let z : ⊥ = omega arith in z))
+  turn-pass (stores c v) m′ w j elses t g p l = absurd (let y : _≡_ {A = ℕ} 0 1 = cc in (let z : ⊥ = omega arith in z))
+  turn-pass increments m′ w j elses t g p l = absurd (let y : _≡_ {A = ℕ} 0 1 = cc in (let z : ⊥ = omega arith in z))
+  turn-pass toElse m′ w j elses t g p l =
       let y : j ≡ passed (length s) true s (k .next) 0 = cc in
-      let l : w′ ≡ w = cc in
-      (rw (running, lt-ltb i (length s) h, q, t, q, y, append-nil o) refl, omega arith, omega (arith, passed-on (length s) true s (k .next) 0))
-  turn-go toEnd m′ w j w′ t g =
+      record { runs = rw (running, lt-ltb i (length s) h, q, t, q, y, append-nil o) refl; counted = omega arith; on = l }
+  turn-pass toEnd m′ w j elses t g p l =
       let y : j ≡ passed (length s) false s (k .next) 0 = cc in
-      let l : w′ ≡ w = cc in
-      (rw (running, lt-ltb i (length s) h, q, t, q, y, append-nil o) refl, omega arith, omega (arith, passed-on (length s) false s (k .next) 0))
+      record { runs = rw (running, lt-ltb i (length s) h, q, t, q, y, append-nil o) refl; counted = omega arith; on = l }
 
   turn-push : (m′ : Machine) (v : Value) → taking (k .item) m ≡ performed (pushes v) m′ → length (m′ .stack) < stackMost
       → running (suc f) s i m o n ≡ running f s (k .next) (withStack m′ (v ∷ m′ .stack)) o (n + 1)
@@ -200,29 +160,14 @@ unfolding running
 run-out zero s i m o n h = refl
 run-out (suc f) s i m o n h = rw (running, le-ltb i (length s) h)
 
-only-pushes : (e : Effect) (s : List ℕ) (j w : ℕ) (v : Value) → stepOf e s j w ≡ Push v → e ≡ pushes v
+only-pushes : (e : Effect) (w : ℕ) (v : Value) → stepOf e w ≡ Push v → e ≡ pushes v
 unfolding stepOf
-only-pushes (prints bytes) s j w v h = absurd (let y : _≡_ {A = ℕ} 0 1 = cc in (let z : ⊥ = omega arith in z))
-only-pushes (pushes u) s j w v h = cc
-only-pushes (stores c u) s j w v h = absurd (let y : _≡_ {A = ℕ} 0 1 = cc in (let z : ⊥ = omega arith in z))
-only-pushes increments s j w v h = absurd (let y : _≡_ {A = ℕ} 0 1 = cc in (let z : ⊥ = omega arith in z))
-only-pushes toElse s j w v h = absurd (let y : _≡_ {A = ℕ} 0 1 = cc in (let z : ⊥ = omega arith in z))
-only-pushes toEnd s j w v h = absurd (let y : _≡_ {A = ℕ} 0 1 = cc in (let z : ⊥ = omega arith in z))
-
--- a step keeps the arguments' count
-arguments-kept : (e : Effect) (m : Machine) → length (machineAfter e m .arguments) ≡ length (m .arguments)
-unfolding machineAfter stored incremented
-arguments-kept (prints bytes) m = refl
-arguments-kept (pushes v) m = refl
-arguments-kept (stores c v) m = by-test (leb c 90)
-  where
-    by-test : (t : Bool) → length ((if t then machine (m .stack) (m .arguments) (m .locals) (set (m .lasting) (c - 65) v)
-        else machine (m .stack) (m .arguments) (set (m .locals) (c - 97) v) (m .lasting)) .arguments) ≡ length (m .arguments)
-    by-test true = refl
-    by-test false = refl
-arguments-kept increments m = rw (length-set, length-set)
-arguments-kept toElse m = refl
-arguments-kept toEnd m = refl
+only-pushes (prints bytes) w v h = absurd (let y : _≡_ {A = ℕ} 0 1 = cc in (let z : ⊥ = omega arith in z))
+only-pushes (pushes u) w v h = cc
+only-pushes (stores c u) w v h = absurd (let y : _≡_ {A = ℕ} 0 1 = cc in (let z : ⊥ = omega arith in z))
+only-pushes increments w v h = absurd (let y : _≡_ {A = ℕ} 0 1 = cc in (let z : ⊥ = omega arith in z))
+only-pushes toElse w v h = absurd (let y : _≡_ {A = ℕ} 0 1 = cc in (let z : ⊥ = omega arith in z))
+only-pushes toEnd w v h = absurd (let y : _≡_ {A = ℕ} 0 1 = cc in (let z : ⊥ = omega arith in z))
 
 -- ---- the turns of a loop that runs s from m₀ over a buffer of bytes c₀
 
@@ -270,7 +215,7 @@ module _ {s : List ℕ} {m₀ : Machine} {c₀ : List ℕ} {x y z : List ℤ} {s
     going-empty l = here ∙ turn-empty (length s - (n + 1)) s i (over st d x y z) o n k (sym q) h (taking-none (k .item) st d x y z l)
 
     module _ {d′ : ℕ} {a b : Value} {x′ y′ z′ : List ℤ} {c′ : List ℕ} {r : Step} (p : Popped (k .item) st d d′ a b)
-        (g : (st′ : List Value) → SteppedAs (effect (k .item) (machine st′ x y z) a b) s (k .next) w (machine st′ x y z) (machine st′ x′ y′ z′) c c′ r) where
+        (g : (st′ : List Value) → SteppedAs (effect (k .item) (machine st′ x y z) a b) w (machine st′ x y z) (machine st′ x′ y′ z′) c c′ r) where
       popping : taking (k .item) (over st d x y z) ≡ performed (effect (k .item) (over st d′ x y z) a b) (over st d′ x y z)
       popping = taking-popped (k .item) st d x y z d′ a b p
 
@@ -290,7 +235,7 @@ module _ {s : List ℕ} {m₀ : Machine} {c₀ : List ℕ} {x y z : List ℤ} {s
 
       module _ {v : Value} (u : r ≡ Push v) where
         pushing : effect (k .item) (over st d′ x y z) a b ≡ pushes v
-        pushing = only-pushes _ s (k .next) w v (sym (g (topDown (pos 0) st d′) .step) ∙ u)
+        pushing = only-pushes _ w v (sym (g (topDown (pos 0) st d′) .step) ∙ u)
 
         pub going-full : stackMost ≤ d′ → running (length s) s 0 m₀ [] 0 ≡ failed 16 i
         going-full l =
@@ -320,16 +265,24 @@ module _ {s : List ℕ} {m₀ : Machine} {c₀ : List ℕ} {x y z : List ℤ} {s
                   ∙ rw e (ap (λ (m : Machine). running (length s - (n + 1)) s (k .next) (withStack m (v ∷ topDown (pos 0) st d′)) o (n + 1)) (sym (s′ .after)));
             }
 
-      module _ {j w′ : ℕ} (u : r ≡ Go j w′) where
-        turned : let e = effect (k .item) (over st d′ x y z) a b in
-            (running (suc (length s - (n + 1))) s i (over st d x y z) o n ≡ running (length s - (n + 1)) s j (machineAfter e (over st d′ x y z)) (o ++ printedBy e) (n + 1))
-            × (w′ ≡ w + length (printedBy e)) × (k .next ≤ j)
-        turned =
-            turn-go (length s - (n + 1)) s i (over st d x y z) o n k (sym q) h (effect (k .item) (over st d′ x y z) a b) (over st d′ x y z) w j w′ popping
-            (sym (g (topDown (pos 0) st d′) .step) ∙ u)
+      -- what Turned says of this item
+      abbrev pub Leads : ℕ → ℕ → Type 0
+      Leads j w′ =
+          Turned (length s - (n + 1)) s i (over st d x y z) o n k (sym q) h (effect (k .item) (over st d′ x y z) a b) (over st d′ x y z) w j w′
 
+      pub leads-go : {w′ : ℕ} → r ≡ Go w′ → Leads (k .next) w′
+      leads-go {w′} u =
+          turn-go (length s - (n + 1)) s i (over st d x y z) o n k (sym q) h (effect (k .item) (over st d′ x y z) a b) (over st d′ x y z) w w′ popping
+          (sym (g (topDown (pos 0) st d′) .step) ∙ u)
+
+      pub leads-pass : {elses : Bool} {j : ℕ} → r ≡ Pass elses → passed (length s) elses s (k .next) 0 ≡ j → k .next ≤ j → Leads j w
+      leads-pass {elses} {j} u e l =
+          turn-pass (length s - (n + 1)) s i (over st d x y z) o n k (sym q) h (effect (k .item) (over st d′ x y z) a b) (over st d′ x y z) w j elses popping
+          (sym (g (topDown (pos 0) st d′) .step) ∙ u) e l
+
+      module _ {j w′ : ℕ} (T : Leads j w′) where
         pub going-further : i < j
-        going-further = omega (arith, going-leads, turned .2)
+        going-further = omega (arith, going-leads, T .on)
 
         pub going-on : Going s m₀ c₀ x′ y′ z′ st d′ j (n + 1) w′ c′ (o ++ printedBy (effect (k .item) (over st d′ x y z) a b))
         going-on =
@@ -342,9 +295,54 @@ module _ {s : List ℕ} {m₀ : Machine} {c₀ : List ℕ} {x y z : List ℤ} {s
               nine = nine-after;
               behind = omega (arith, G .behind, going-further);
               steps = omega (arith, G .behind);
-              counted = omega (arith, G .counted, turned .1);
-              short = omega (arith, G .short, turned .1, s′ .short);
+              counted = omega (arith, G .counted, T .counted);
+              short = omega (arith, G .short, T .counted, s′ .short);
               same = same-after;
               output = output-after;
-              runs = here ∙ turned .0 ∙ ap (λ (m : Machine). running (length s - (n + 1)) s j m (o ++ printedBy e) (n + 1)) (sym (s′ .after));
+              runs = here ∙ T .runs ∙ ap (λ (m : Machine). running (length s - (n + 1)) s j m (o ++ printedBy e) (n + 1)) (sym (s′ .after));
             }
+
+-- ---- the check along a run
+
+-- the form is that of what is left from i on with the number k kept
+pub record Checked (s : List ℕ) (i k : ℕ) : Type 0 where
+  pub form : formOf s ≡ formLeft s i k
+  pub most : k ≤ nestedMost
+
+pub checked-start : (s : List ℕ) → Checked s 0 0
+checked-start s = record { form = left-start s; most = omega arith }
+
+module _ {s : List ℕ} {i k : ℕ} (C : Checked s i k) where
+  pub checked-end : length s ≤ i → k ≡ 0 → formOf s ≡ F.Right
+  checked-end l e = C .form ∙ left-end s i k l ∙ rw (eq-eqb k 0 e)
+
+  pub checked-open : length s ≤ i → (k ≡ 0 → ⊥) → formOf s ≡ F.Wrong (length s)
+  checked-open l e = C .form ∙ left-end s i k l ∙ rw (ne-eqb k 0 e)
+
+  module _ {l : Lexed} (q : l ≡ itemAt s i) (h : i < length s) where
+    pub checked-on : {c : Class} {t : Turn} {k′ : ℕ} → c ≡ classOf (l .item) → t ≡ nested c k → t ≡ T.Go k′ → Checked s (l .next) k′
+    unfolding classAt
+    checked-on {c} {t} {k′} e f g =
+        let u : nested (classAt s i .class) k ≡ T.Go k′ = rw (← q, ← e) (sym f ∙ g) in
+        record { form = C .form ∙ left-go s i k k′ h u ∙ rw q; most = nested-most _ k k′ (C .most) u }
+
+    pub checked-wrong : {c : Class} {t : Turn} → c ≡ classOf (l .item) → t ≡ nested c k → t ≡ T.Stop → formOf s ≡ F.Wrong i
+    unfolding classAt
+    checked-wrong {c} {t} e f g =
+        let u : nested (classAt s i .class) k ≡ T.Stop = rw (← q, ← e) (sym f ∙ g) in
+        C .form ∙ left-stop s i k h u
+
+  -- passing from i on
+  pub checked-pass : (elses : Bool) {r : Passed} {j k′ : ℕ} → PassedAs s i k elses r → r ≡ P.To j k′ → Checked s j k′
+  checked-pass elses {r} {j} {k′} p e =
+      let u = subst (λ (x : Passed). PassedAs s i k elses x) e p in
+      record { form = C .form ∙ u .1 .0; most = u .1 .1 .1 }
+
+  pub checked-passed : (elses : Bool) {r : Passed} {p : ℕ} → PassedAs s i k elses r → r ≡ P.Wrong p → formOf s ≡ F.Wrong p
+  checked-passed elses {r} {p} h e = C .form ∙ subst (λ (x : Passed). PassedAs s i k elses x) e h
+
+-- where passing leads
+pub passed-to : (s : List ℕ) (i k : ℕ) (elses : Bool) {r : Passed} {j k′ : ℕ} → PassedAs s i k elses r → r ≡ P.To j k′ → (passed (length s) elses s i 0 ≡ j) × (i ≤ j)
+passed-to s i k elses {r} {j} {k′} p e =
+    let u = subst (λ (x : Passed). PassedAs s i k elses x) e p in
+    (u .0, u .1 .1 .0)

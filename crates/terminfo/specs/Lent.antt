@@ -1,4 +1,4 @@
--- What expanding with lent lasting variables promises, and what expanding a file's string gives (document 01: Expansion).
+-- What expanding a file's string gives, and what a call that does so promises (document 01: Expansion).
 -- Assumes nothing.
 use mathlib.Core.Path.{_≡_}
 use mathlib.Core.List.{List}
@@ -11,18 +11,12 @@ use Rattle.entry.specs.Answer.{Answer, mapAnswer}
 use Rattle.entry.specs.Reading.{bytesOf}
 use Rattle.entry.specs.Asking.{askingString, partGiven}
 use Rattle.expansion.specs.declared.Expansion.{Expansion}
-use Rattle.expansion.specs.Expanding.{Expanding, expanding, counted, saysExpansion, lastingAfter, outputAfter}
+use Rattle.expansion.specs.Expanding.{Expanding, expanding, counted, saysExpansion, outputAfter}
 
 -- a call that comes to a, over a buffer with bytes b before and b′ after, answers r; a refusal leaves the buffer
 pub record WrittenAs (a : Answer Expanding) (b : List ℕ) (at : ℕ) (b′ : List ℕ) (r : Expansion) : Type 0 where
   pub answer : saysExpansion r ≡ mapAnswer counted a
   pub output : b′ ≡ outputAfter b at a
-
--- "The lasting variables A to Z are lent by the caller and changed in place": such a call, with variables v before and v′ after; a refusal
--- leaves them
-pub record LentAs (a : Answer Expanding) (v v′ : List ℤ) (b : List ℕ) (at : ℕ) (b′ : List ℕ) (r : Expansion) : Type 0 where
-  pub written : WrittenAs a b at b′ r
-  pub lasting : v′ ≡ lastingAfter v a
 
 -- the variables A to Z, all 0
 abbrev pub zeroLasting : List ℤ

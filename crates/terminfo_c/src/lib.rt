@@ -13,7 +13,6 @@ use caps::Edition;
 use caps::Kind;
 use caps::Place;
 use entry::Opened;
-use expansion::Lasting;
 use names::Name;
 
 mod ask;
@@ -264,11 +263,5 @@ pub extern "C" fn terminfo_expand(
     ensures { λ r. ⌜ ExpandedNumber (expanding (now (string .entry)) (now (arguments .entry)) (now (lasting .entry)) (length (now (buffer .entry))) at) (now (lasting .entry)) (now (lasting .exit)) (now (buffer .entry)) at (now (buffer .exit)) r ⌝ }
 {
     let nine = *arguments;
-    let before = *lasting;
-    let e = expand::expand(string, nine, Lasting { values: before }, buffer, at);
-    let after = e.lasting;
-    let values = after.values;
-    *lasting = values;
-    let answer = e.answer;
-    c_numbers::expansion_number(answer)
+    c_numbers::expansion_number(expand::expand_lent(string, nine, lasting, buffer, at))
 }

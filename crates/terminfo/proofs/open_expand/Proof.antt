@@ -58,13 +58,14 @@ use Rattle.states.specs.Held.{IsPart}
 use Rattle.expansion.specs.declared.Lasting.{Lasting}
 use Rattle.expansion.specs.declared.Expansion.{Expansion}
 use Rattle.expansion.specs.Expanding.{Expanding, expanding}
+use Rattle.expand.specs.Answers.{LentAs}
 use Rattle.expansion.proofs.Lasting as L
 use Rattle.expansion.proofs.Lasting.Laws as L′
 use Rattle.expansion.proofs.Expansion as R
 use Rattle.expansion.proofs.Expansion.Laws as R′
 use Rattle.terminfo.specs.Entries.{entryOf, entryString}
 use Rattle.terminfo.specs.EntryLaws.{opened-string}
-use Rattle.terminfo.specs.Lent.{LentAs, zeroLasting, expandingAt, WrittenAs}
+use Rattle.terminfo.specs.Lent.{zeroLasting, expandingAt, WrittenAs}
 use Rattle.terminfo.specs.declared.Entry.{Entry}
 use Rattle.terminfo.proofs.Lend.{value, cell, lends, back}
 use Rattle.terminfo.proofs.Entry as T
@@ -167,7 +168,7 @@ module _ {M : Type 1} (𝓤 : URA M) (H : Heap 𝓤) (A : Atoms 𝓤) (W : Given
   Claim zs a = WrittenAs (expandingAt e₀ (now s) p₀ xs (length ys) n) ys n zs a
 
   claimed : (r : Entry) (t : S .Denot) (h z : Lasting) (zs : List ℕ) (a : Expansion) → Opened r → Part r t → Zeros h → Said t h z zs a → Claim zs a
-  claimed r t h z zs a o d k g = subst (λ (w : Answer Expanding). WrittenAs w ys n zs a) same (g .written)
+  claimed r t h z zs a o d k g = subst (λ (w : Answer Expanding). WrittenAs w ys n zs a) same (record { answer = g .answer; output = g .output })
     where
       part : IsPart s t (partGiven (askingString e₀ (now s) p₀))
       part = subst (IsPart s t) (ap partGiven (opened-string e₀ (now s) p₀)) (subst (λ (w : Entry). Part w t) o d)

@@ -1,12 +1,12 @@
--- `expand::load` meets its contract: capital letters are the lasting variables.
+-- `machine::load` meets its contract: capital letters are the lasting variables.
 -- Assumes nothing.
 use mathlib.Core.Path.{_∙_}
 use borrow.Author.Needs.{needs}
 use borrow.Author.Tests.{le-leb, lt-leb}
 use Rattle.signed.proofs.Laws.{again}
 use Rattle.expansion.specs.Machine.{loaded}
-use Rattle.expand.proofs.load.Statement.{statement}
-use Rattle.expand.proofs.load.Tie as tie
+use Rattle.machine.proofs.load.Statement.{statement}
+use Rattle.machine.proofs.load.Tie as tie
 
 returns : tie.Need-returns
 unfolding loaded

@@ -1,11 +1,11 @@
--- `expand::store` meets its contract: capital letters are the lasting variables.
+-- `machine::store` meets its contract: capital letters are the lasting variables.
 -- Assumes nothing.
 use mir.Facts.{toZ-ofZ}
 use borrow.Author.Needs.{needs}
 use borrow.Author.Tests.{le-leb, lt-leb}
 use Rattle.expansion.specs.Machine.{stored}
-use Rattle.expand.proofs.store.Statement.{statement}
-use Rattle.expand.proofs.store.Tie as tie
+use Rattle.machine.proofs.store.Statement.{statement}
+use Rattle.machine.proofs.store.Tie as tie
 
 returns : tie.Need-returns
 unfolding stored

@@ -1,8 +1,8 @@
--- `expand::arity` meets its contract, arm by arm.
+-- `machine::arity` meets its contract, arm by arm.
 -- Assumes nothing.
 use Rattle.expansion.specs.Machine.{arity}
-use Rattle.expand.proofs.arity.Statement.{statement}
-use Rattle.expand.proofs.arity.Tie as tie
+use Rattle.machine.proofs.arity.Statement.{statement}
+use Rattle.machine.proofs.arity.Tie as tie
 
 pub arity-spec : {M : Type 1} → statement M
 unfolding arity

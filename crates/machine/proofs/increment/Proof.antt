@@ -1,4 +1,4 @@
--- `expand::increment` meets its contract: both sums wrap as the definition's.
+-- `machine::increment` meets its contract: both sums wrap as the definition's.
 -- Assumes nothing.
 use lib.IntN.{ℤ, pos}
 use lib.ListN.{getD}
@@ -8,8 +8,8 @@ use borrow.Author.Needs.{needs}
 use Rattle.signed.specs.Signed.{add}
 use Rattle.signed.proofs.Laws.{called}
 use Rattle.expansion.specs.Machine.{incremented}
-use Rattle.expand.proofs.increment.Statement.{statement}
-use Rattle.expand.proofs.increment.Tie as tie
+use Rattle.machine.proofs.increment.Statement.{statement}
+use Rattle.machine.proofs.increment.Tie as tie
 
 returns : tie.Need-returns
 unfolding incremented

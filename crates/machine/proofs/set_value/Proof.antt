@@ -1,10 +1,10 @@
--- `expand::set_value` meets its contract: nothing is set past a list's end.
+-- `machine::set_value` meets its contract: nothing is set past a list's end.
 -- Assumes nothing.
 use mathlib.Core.Path.{sym}
 use lib.Seq.{set-out}
 use borrow.Author.Needs.{needs}
-use Rattle.expand.proofs.set_value.Statement.{statement}
-use Rattle.expand.proofs.set_value.Tie as tie
+use Rattle.machine.proofs.set_value.Statement.{statement}
+use Rattle.machine.proofs.set_value.Tie as tie
 
 returns-2 : tie.Need-returns-2
 returns-2 c = sym (set-out (c .before .args .values .now) (c .before .args .k) (c .before .args .v) (c .if1 .left))
