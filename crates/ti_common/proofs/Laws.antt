@@ -7,9 +7,9 @@ use Prim.Native.Nat.{ℕ, zero, suc, _+_, _-_, _*_, _≤_, _<_, _^_}
 use native.Mathlib.Nat.{le-refl, pow-suc}
 use native.Mathlib.Omega.{arith}
 use native.Mathlib.Numerals.{add-one}
-use lib.Dec.{T, eqb, ltb}
+use lib.Dec.{T}
 use lib.ListN.{length, getD, set, take, drop, length-append}
-use lib.Seq.{length-take-le, take-at, take-suc, take-length}
+use lib.Seq.{take-at, take-suc, take-length}
 use lib.IntN.{ℤ, pos, negsuc, natAbs}
 use lib.Signed.{ltZ, nonNeg}
 use mir.Syntax.{w32, w64}
@@ -19,15 +19,13 @@ use borrow.Author.Tests.{eq-eqb, ne-eqb}
 use Rattle.io.specs.Counts.{Counts}
 use Rattle.io.specs.Digits.{Fewest}
 use Rattle.base.specs.If.{if_then_else_, below-or}
-use Rattle.base.specs.Overwrite.{putAt, length-put, put-nil, put-set, put-front, put-run}
+use Rattle.base.specs.Overwrite.{putAt, length-put, put-set, put-front, put-run}
 use Rattle.names.specs.Names.{ascii}
 use Rattle.ti_common.specs.Beside.{folderIn, beside}
+use Rattle.ti_common.specs.Puts.{Puts, counted, puts-none, puts-then}
 use Rattle.ti_common.specs.Shown.{isPlain, octal, shownByte, shown}
 
 -- ---- counts
-
-pub counted : (n : ℕ) (xs : List ℕ) → n ≤ length xs → Counts n xs
-counted n xs h = (h, sym (length-take-le n xs h))
 
 -- ten to the 20th or more
 powers : (j : ℕ) → 100000000000000000000 ≤ 10 ^ (j + 20)
@@ -38,7 +36,7 @@ powers (suc j) =
     rw (e, pow-suc 10 (j + 20)) (omega arith)
 
 -- a 64-bit number has at most 20 digits
-digits-most : (n k : ℕ) → n < 2 ^ 64 → Fewest 10 1 n k → k ≤ 20
+pub digits-most : (n k : ℕ) → n < 2 ^ 64 → Fewest 10 1 n k → k ≤ 20
 digits-most n k h f =
     below-or k 21 (λ l. omega arith)
     (λ g.
@@ -101,28 +99,29 @@ not-negative (negsuc n) h t = absurd (subst T t tt)
 
 -- ---- bytes as they are shown
 
--- b is b₀ with the first i bytes of s as they are shown at its start, which are n bytes
-abbrev pub Shows : (least : ℕ) (s b₀ b : List ℕ) (i n : ℕ) → Type 0
-Shows least s b₀ b i n = (b ≡ putAt b₀ 0 (shown least (take i s))) × (n ≡ length (shown least (take i s))) × (n ≤ 4 * i)
-
 most-by : (c : ℕ) (t : Bool) → length (if t then c ∷ [] else octal c) ≤ 4
 unfolding octal
 most-by c true = omega arith
 most-by c false = omega arith
 
-pub shown-most : (least c : ℕ) → length (shownByte least c) ≤ 4
+shown-most : (least c : ℕ) → length (shownByte least c) ≤ 4
 unfolding shownByte
 shown-most least c = most-by c (isPlain least c)
 
-pub put-plain : (b : List ℕ) (at least c : ℕ) → at < length b → isPlain least c ≡ true
-    → (set b at c ≡ putAt b at (shownByte least c)) × (at + 1 ≡ at + length (shownByte least c))
-unfolding shownByte
-put-plain b at least c h e = rw e (put-set b at c h, refl)
+-- a byte is put as it is shown
+byte-put : (b b′ : List ℕ) (at least c : ℕ) (xs : List ℕ) (end : ℕ) → shownByte least c ≡ xs → b′ ≡ putAt b at xs → end ≡ at + length xs
+    → Puts b b′ at (shownByte least c) 4 end
+byte-put b b′ at least c xs end e p q =
+    let m : length xs ≤ 4 = rw e at (shown-most least c) in
+    rw e (record { buffer = p; behind = q; few = omega arith })
 
-pub put-other : (b b′ : List ℕ) (at least c : ℕ) → isPlain least c ≡ false → b′ ≡ putAt b at (octal c)
-    → (b′ ≡ putAt b at (shownByte least c)) × (at + 4 ≡ at + length (shownByte least c))
+pub put-plain : (b : List ℕ) (at least c : ℕ) → at < length b → isPlain least c ≡ true → Puts b (set b at c) at (shownByte least c) 4 (at + 1)
+unfolding shownByte
+put-plain b at least c h e = byte-put b (set b at c) at least c (c ∷ []) (at + 1) (rw e) (put-set b at c h) refl
+
+pub put-other : (b b′ : List ℕ) (at least c : ℕ) → isPlain least c ≡ false → b′ ≡ putAt b at (octal c) → Puts b b′ at (shownByte least c) 4 (at + 4)
 unfolding shownByte octal
-put-other b b′ at least c e h = rw e (h, refl)
+put-other b b′ at least c e h = byte-put b b′ at least c (octal c) (at + 4) (rw e) h refl
 
 shown-append : (least : ℕ) (s t : List ℕ) → shown least (s ++ t) ≡ shown least s ++ shown least t
 unfolding shown
@@ -138,25 +137,19 @@ shown-next least s i h =
     let m : take (i + 1) s ≡ take i s ++ (getD s i 0 ∷ []) = ap (λ (k : ℕ). take k s) (add-one i) ∙ take-suc s i 0 h in
     ap (shown least) m ∙ shown-append least (take i s) (getD s i 0 ∷ []) ∙ ap (λ (x : List ℕ). shown least (take i s) ++ x) (shown-one least (getD s i 0))
 
-pub shows-start : (least : ℕ) (s b : List ℕ) → Shows least s b b 0 0
+-- the first i bytes of s are put as they are shown
+abbrev pub Shows : (least : ℕ) (s b₀ b : List ℕ) (at i end : ℕ) → Type 0
+Shows least s b₀ b at i end = Puts b₀ b at (shown least (take i s)) (4 * i) end
+
+pub shows-start : (least : ℕ) (s b : List ℕ) (at : ℕ) → Shows least s b b at 0 at
 unfolding shown
-shows-start least s b = (sym (put-nil b 0), refl, omega arith)
+shows-start least s b at = puts-none b at
 
-pub shows-next : (least : ℕ) (s b₀ b b′ : List ℕ) (i n n′ : ℕ) → 4 * length s ≤ length b₀ → i < length s → Shows least s b₀ b i n
-    → b′ ≡ putAt b n (shownByte least (getD s i 0)) → n′ ≡ n + length (shownByte least (getD s i 0)) → Shows least s b₀ b′ (i + 1) n′
-shows-next least s b₀ b b′ i n n′ h l w e k =
-    let c : ℕ = getD s i 0 in
-    let x : List ℕ = shown least (take i s) in
-    let m : length (shownByte least c) ≤ 4 = shown-most least c in
-    let q : shown least (take (i + 1) s) ≡ x ++ shownByte least c = shown-next least s i l in
-    let p : length (shown least (take (i + 1) s)) ≡ length x + length (shownByte least c) = ap length q ∙ length-append x (shownByte least c) in
-    (e ∙ put-run b₀ b 0 n x (shownByte least c) (shown least (take (i + 1) s)) (w .0) (omega arith) q (omega arith), omega arith, omega arith)
+pub shows-next : (least : ℕ) (s b₀ b b′ : List ℕ) (at i end end′ : ℕ) → at + 4 * length s ≤ length b₀ → i < length s → Shows least s b₀ b at i end
+    → Puts b b′ end (shownByte least (getD s i 0)) 4 end′ → Shows least s b₀ b′ at (i + 1) end′
+shows-next least s b₀ b b′ at i end end′ h l w p =
+    let m : 4 * (i + 1) ≡ 4 * i + 4 = omega arith in
+    rw (shown-next least s i l, m) (puts-then w p (omega arith))
 
-pub shows-end : (least : ℕ) (s b₀ b : List ℕ) (n : ℕ) → 4 * length s ≤ length b₀ → Shows least s b₀ b (length s) n → (take n b ≡ shown least s) × Counts n b
-shows-end least s b₀ b n h w =
-    let x : List ℕ = shown least s in
-    let t : shown least (take (length s) s) ≡ x = ap (shown least) (take-length s) in
-    let k : n ≡ length x = w .1 ∙ ap length t in
-    let e : b ≡ putAt b₀ 0 x = w .0 ∙ ap (putAt b₀ 0) t in
-    let l : length b ≡ length b₀ = ap length e ∙ length-put b₀ 0 x (omega arith) in
-    (ap (take n) (e ∙ put-front b₀ x) ∙ take-at x (drop (length x) b₀) n (sym k), counted n b (omega arith))
+pub shows-end : (least : ℕ) (s b₀ b : List ℕ) (at i end : ℕ) → i ≡ length s → Shows least s b₀ b at i end → Puts b₀ b at (shown least s) (4 * length s) end
+shows-end least s b₀ b at i end e w = rw (e, take-length s) at w

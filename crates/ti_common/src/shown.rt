@@ -1,9 +1,9 @@
 // Bytes as people read them.
 ghost use mathlib.Core.Path.{_≡_};
 ghost use Prim.Native.Nat.{_+_, _*_, _<_, _≤_};
-ghost use lib.ListN.{length, take};
+ghost use lib.ListN.{length};
 ghost use Rattle.base.specs.Overwrite.{putAt};
-ghost use Rattle.io.specs.Counts.{Counts};
+ghost use Rattle.ti_common.specs.Puts.{Puts};
 ghost use Rattle.ti_common.specs.Shown.{isPlain, octal, shownByte, shown};
 use crate::say;
 
@@ -40,7 +40,7 @@ fn put_octal(out: &mut [u8], at: usize, c: u8)
 // Puts a byte as it is shown, and answers the place behind it.
 fn put_shown(out: &mut [u8], at: usize, least: u8, c: u8) -> usize
     requires { ⌜ at + 4 ≤ length (now out) ⌝ }
-    ensures { λ r. ⌜ (now (out .exit) ≡ putAt (now (out .entry)) at (shownByte least c)) × (r ≡ at + length (shownByte least c)) ⌝ }
+    ensures { λ r. ⌜ Puts (now (out .entry)) (now (out .exit)) at (shownByte least c) 4 r ⌝ }
 {
     if is_plain(least, c) {
         out[at] = c;
@@ -50,18 +50,18 @@ fn put_shown(out: &mut [u8], at: usize, least: u8, c: u8) -> usize
     at + 4
 }
 
-// Puts bytes as they are shown at the start of out, and answers how many there are.
-pub fn show(bytes: &[u8], least: u8, out: &mut [u8]) -> usize
-    requires { ⌜ 4 * length (now bytes) ≤ length (now out) ⌝ }
-    ensures { λ r. ⌜ (take r (now (out .exit)) ≡ shown least (now (bytes .entry))) × Counts r (now (out .exit)) ⌝ }
+// Puts bytes as they are shown, and answers the place behind them.
+pub fn show(out: &mut [u8], at: usize, least: u8, bytes: &[u8]) -> usize
+    requires { ⌜ at + 4 * length (now bytes) ≤ length (now out) ⌝ }
+    ensures { λ r. ⌜ Puts (now (out .entry)) (now (out .exit)) at (shown least (now (bytes .entry))) (4 * length (now (bytes .entry))) r ⌝ }
 {
-    let mut n = 0;
+    let mut end = at;
     let mut i = 0;
     while i < bytes.len() {
-        n = put_shown(out, n, least, bytes[i]);
+        end = put_shown(out, end, least, bytes[i]);
         i += 1;
     }
-    n
+    end
 }
 
 // Writes a piece to standard output, as it is shown.
@@ -69,7 +69,7 @@ fn say_piece(bytes: &[u8], least: u8) -> bool
     requires { ⌜ length (now bytes) ≤ 256 ⌝ }
 {
     let mut out = [0u8; 4 * PIECE];
-    let n = show(bytes, least, &mut out);
+    let n = show(&mut out, 0, least, bytes);
     say(&out[..n])
 }
 

@@ -7,7 +7,8 @@ use mathlib.Core.Path.{_≡_, sym, _∙_}
 use mathlib.Core.Logic.{inl, inr}
 use denote.Ref.{now}
 use borrow.Author.Needs.{needs}
-use Rattle.ti_common.proofs.Laws.{counted, Folder, folder-start, folder-slash, folder-other}
+use Rattle.ti_common.specs.Puts.{counted}
+use Rattle.ti_common.proofs.Laws.{Folder, folder-start, folder-slash, folder-other}
 use Rattle.ti_common.proofs.save.folder.Statement.{statement}
 use Rattle.ti_common.proofs.save.folder.Tie as tie
 

@@ -11,13 +11,13 @@ use Rattle.ti_common.proofs.shown.show.Statement.{statement}
 use Rattle.ti_common.proofs.shown.show.Tie as tie
 
 abbrev Inv-loop : tie.InvT-loop
-Inv-loop bytes least out₀ n₀ i₀ out n i = (i ≤ length bytes) × (length out ≡ length out₀) × Shows least bytes out₀ out i n
+Inv-loop out₀ at least bytes end₀ i₀ out end i = (i ≤ length bytes) × (length out ≡ length out₀) × Shows least bytes out₀ out at i end
 
 abbrev μ-loop : tie.MeasureT-loop
-μ-loop bytes least out₀ n₀ i₀ out n i = length bytes - i
+μ-loop out₀ at least bytes end₀ i₀ out end i = length bytes - i
 
 loop-holds : tie.Need-loop-holds Inv-loop μ-loop
-loop-holds c = let a = c .before .before .args in (omega arith, refl, shows-start (a .least) (now (a .bytes)) (now (a .out)))
+loop-holds c = let a = c .before .before .args in (omega arith, refl, shows-start (a .least) (now (a .bytes)) (now (a .out)) (a .at))
 
 shared-slice-read-put-shown : tie.Need-shared-slice-read-put-shown Inv-loop μ-loop
 shared-slice-read-put-shown c = search needs
@@ -28,7 +28,7 @@ put-shown-requires c κs =
     let h = c .before .before .before .before .before .before .pre in
     let l = c .before .before .loop-test .taken in
     let e = t .inv .1 in
-    let m = t .inv .2 .2 in
+    let m = t .inv .2 .few in
     omega arith
 
 add-i : tie.Need-add-i Inv-loop μ-loop
@@ -42,7 +42,7 @@ loop-again c =
     let a = c .before .before .before .before .before .before .before .before .before .args in
     let t = c .before .before .before .before .before .before .loop in
     let p = c .before .before .put-shown in
-    (search needs, p .kept .0 ∙ t .inv .1, shows-next (a .least) (now (a .bytes)) (now (a .out)) (t .out) (p .last .0) (t .i) (t .n) (p .result) (c .before .before .before .before .before .before .before .before .before .pre) (c .before .before .before .before .before .loop-test .taken) (t .inv .2) (p .ensures .0) (p .ensures .1))
+    (search needs, p .kept .0 ∙ t .inv .1, shows-next (a .least) (now (a .bytes)) (now (a .out)) (t .out) (p .last .0) (a .at) (t .i) (t .end) (p .result) (c .before .before .before .before .before .before .before .before .before .pre) (c .before .before .before .before .before .loop-test .taken) (t .inv .2) (p .ensures))
 
 same-length : tie.Need-same-length Inv-loop μ-loop
 same-length c = c .before .loop .inv .1
@@ -51,8 +51,7 @@ returns : tie.Need-returns Inv-loop μ-loop
 returns c =
     let a = c .before .before .before .before .args in
     let t = c .before .loop in
-    let e : t .i ≡ length (now (a .bytes)) = omega arith in
-    shows-end (a .least) (now (a .bytes)) (now (a .out)) (t .out) (t .n) (c .before .before .before .before .pre) (subst (λ (k : ℕ). Shows (a .least) (now (a .bytes)) (now (a .out)) (t .out) k (t .n)) e (t .inv .2))
+    shows-end (a .least) (now (a .bytes)) (now (a .out)) (t .out) (a .at) (t .i) (t .end) (omega arith) (t .inv .2)
 
 pub show-spec : {M : Type 1} → statement M
 show-spec =
