@@ -1,7 +1,11 @@
 // Expands a capability of a compiled file with up to nine numbers, through the library only: `[-v] FILE CAPABILITY [NUMBER]..`. The
 // output goes to standard output as it is; with -v, shown, and then the steps.
-// Proved: it is safe and ends; what stands for a byte is what `shown` of ti_common/specs says. Assumed: what libc and os say of C.
+// Proved: it is safe and ends; a word's number is that of specs/Number.antt, a refusal's that of expansion/specs; what stands for a byte is
+// what `shown` of ti_common/specs says. Assumed: what libc and os say of C.
+ghost use mathlib.Core.Path.{_≡_};
 ghost use Prim.Native.Nat.{_≤_};
+ghost use Rattle.entry.specs.Answer.{numberOf};
+ghost use Rattle.expansion.specs.Expanding.{saysExpansion};
 use caps::Place;
 use entry::StringState;
 use expansion::Expansion;
@@ -81,6 +85,24 @@ fn say_output(output: &[u8], steps: usize, is_verbose: bool) -> Status {
     ti_common::written(say(output))
 }
 
+// Document 01's number of the refusal; 0 where there is output.
+fn number_of(answer: Expansion) -> usize
+    ensures { λ r. ⌜ r ≡ numberOf (saysExpansion answer) ⌝ }
+{
+    match answer {
+        Expansion::Done {
+            length: _,
+            steps: _,
+        } => 0,
+        Expansion::Place => 17,
+        Expansion::Length => 1,
+        Expansion::Malformed(_) => 14,
+        Expansion::Empty(_) => 15,
+        Expansion::Full(_) => 16,
+        Expansion::Room(_) => 8,
+    }
+}
+
 // Expands the string at a place that the file has.
 fn expand_string(
     path: &[u8],
@@ -91,16 +113,17 @@ fn expand_string(
 ) -> Status {
     let mut out = [0u8; OUTPUT_ROOM];
     let answer = terminfo::open_expand(file, FIRST, place, values, &mut out, 0);
+    let number = number_of(answer);
     match answer {
         Expansion::Done { length, steps } => {
             let k = ti_common::part(length, &out);
             say_output(&out[..k], steps, is_verbose)
         }
-        Expansion::Place => refuse(path, 17),
-        Expansion::Length => refuse(path, 1),
-        Expansion::Malformed(i) => refuse_at(path, 14, i),
-        Expansion::Empty(i) => refuse_at(path, 15, i),
-        Expansion::Full(i) => refuse_at(path, 16, i),
+        Expansion::Place => refuse(path, number),
+        Expansion::Length => refuse(path, number),
+        Expansion::Malformed(i) => refuse_at(path, number, i),
+        Expansion::Empty(i) => refuse_at(path, number, i),
+        Expansion::Full(i) => refuse_at(path, number, i),
         Expansion::Room(n) => ti_common::refusal::refuse_room(path, n),
     }
 }

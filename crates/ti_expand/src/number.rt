@@ -1,5 +1,7 @@
 // Numbers as people write them.
-ghost use Prim.Native.Nat.{_≤_};
+ghost use mathlib.Core.Path.{_≡_};
+ghost use mathlib.Core.Bool.{true, false};
+ghost use Rattle.ti_expand.specs.Number.{signedOf, valueOf, withDigit, magnitudeOf};
 
 // A word's value.
 pub enum Parsed {
@@ -15,7 +17,7 @@ const NO_MAGNITUDE: u64 = 4294967296;
 
 // A magnitude with a digit more.
 fn with_digit(n: u64, c: u8) -> u64
-    ensures { λ r. ⌜ r ≤ 4294967296 ⌝ }
+    ensures { λ r. ⌜ r ≡ withDigit n c ⌝ }
 {
     if c < b'0' {
         return NO_MAGNITUDE;
@@ -33,28 +35,31 @@ fn with_digit(n: u64, c: u8) -> u64
     m
 }
 
-// The magnitude that the digits from a place on are, at least one of them.
-fn magnitude(word: &[u8], from: usize) -> u64 {
-    if word.len() <= from {
-        return NO_MAGNITUDE;
-    }
+// The magnitude that digits are.
+fn magnitude(digits: &[u8]) -> u64
+    ensures { λ r. ⌜ r ≡ magnitudeOf (now (digits .entry)) ⌝ }
+{
     let mut n = 0;
-    let mut i = from;
-    while i < word.len() {
-        n = with_digit(n, word[i]);
+    let mut i = 0;
+    while i < digits.len() {
+        n = with_digit(n, digits[i]);
         i += 1;
     }
     n
 }
 
-fn positive(n: u64) -> Parsed {
+fn positive(n: u64) -> Parsed
+    ensures { λ r. ⌜ r ≡ signedOf false n ⌝ }
+{
     if MAGNITUDE_MOST <= n {
         return Parsed::Wrong;
     }
     Parsed::Value(signed::value_of(n as u32))
 }
 
-fn negative(n: u64) -> Parsed {
+fn negative(n: u64) -> Parsed
+    ensures { λ r. ⌜ r ≡ signedOf true n ⌝ }
+{
     if MAGNITUDE_MOST < n {
         return Parsed::Wrong;
     }
@@ -65,12 +70,17 @@ fn negative(n: u64) -> Parsed {
 }
 
 // The value of a word: decimal digits, after a minus where it is negative.
-pub fn parse(word: &[u8]) -> Parsed {
+pub fn parse(word: &[u8]) -> Parsed
+    ensures { λ r. ⌜ r ≡ valueOf (now (word .entry)) ⌝ }
+{
     if word.len() == 0 {
         return Parsed::Wrong;
     }
-    if word[0] == b'-' {
-        return negative(magnitude(word, 1));
+    if word[0] != b'-' {
+        return positive(magnitude(word));
     }
-    positive(magnitude(word, 0))
+    if word.len() == 1 {
+        return Parsed::Wrong;
+    }
+    negative(magnitude(&word[1..]))
 }
