@@ -5,6 +5,8 @@ Answers are held to document 01's examples and, on generated input, to the model
 
 import os
 import re
+import resource
+import shutil
 import subprocess
 import sys
 import tempfile
@@ -27,6 +29,8 @@ GENERATED = 400
 FILES, MERGES, STRINGS = 300, 200, 300
 OLD = b"the file that was there before"
 REFUSED = re.compile(r"ti: (.*): refused (\d+): .*\n")
+OTHER_USER = ["setpriv", "--reuid=65534", "--regid=65534", "--clear-groups"]
+PATH_MOST = 4095  # the most bytes of a path on Linux
 PLACE = re.compile(r".*, at byte (\d+) \(counted from 0\), line (\d+), column (\d+) "
                    r"\(counted from 1\)\n")
 
@@ -319,6 +323,7 @@ def check_bad_files():
                  raw("merge", name, "act", "out"), raw("merge", "act", name, "out")]
     runs += [raw("merge", "act", "act", out)
              for out in ("dir", "dir/", "missing/out", "/dev/null", "", 256 * "n")]
+    runs += [raw("compile", "-"), raw("merge", "act", "act", "-"), raw("merge", "-", "-", "out")]
     runs += [raw("check"), raw("show"), raw("check", "act", "act"), raw("merge", "act", "act"),
              raw("expand", "act"), raw("expand", "-v", "act"),
              raw("expand", "act", "cup", *"1234567890"),
@@ -338,6 +343,130 @@ def check_bad_files():
     return len(runs)
 
 
+def long_path(name):
+    """A path as long as the system takes, to a file of this name in the folder."""
+    fill = PATH_MOST - len(name)
+    return fill // 2 * "./" + fill % 2 * "/" + name
+
+
+def check_long_names():
+    """Names of 255 bytes and paths of 4,095: read, written and shown in a refusal."""
+    act = act4.dumped()
+    name = 255 * "n"
+    runs = 0
+    for path in (name, long_path(name), long_path("long"), str(folder / name)):
+        if "long" in path:
+            put("long", act)
+        else:
+            same(ti("compile", path, text=act4.TEXT), (0, "compiled: 392 bytes\n", ""), path)
+            same((folder / name).read_bytes(), act, path)
+            same(raw("merge", path, path, path), (0, b"merged: 392 bytes\n", ""), path)
+        same(raw("check", path), (0, b"accepted: 392 bytes\n", ""), path)
+        same(raw("show", path), (0, shown_file(act).encode(), ""), path)
+        same(raw("expand", path, "cup", "5", "70"), (0, b"\x14\x05F", ""), path)
+        put("long" if "long" in path else name, act[:-1])
+        refused(raw("check", path), path, 1)
+        (folder / ("long" if "long" in path else name)).unlink()
+        runs += 6
+    before = files()
+    for path in (long_path("long") + "x", "./" * 2048 + "long", long_path("x")):
+        same(ti("compile", path, text=act4.TEXT)[:2], (2, ""), path)
+    same(files(), before, "files")
+    return runs + 3
+
+
+def check_closed_streams():
+    """Standard input or output closed or full, for the commands that write a file.
+
+    A closed output changes no file. A full one is told of after the file was saved.
+    """
+    put("act", act4.dumped())
+    runs = 0
+    for words in (["compile", "out"], ["merge", "act", "act", "out"]):
+        put("out", OLD)
+        before = files()
+        done = subprocess.run(["sh", "-c", 'exec "$@" >&-', "sh", TI, *words], cwd=folder,
+                              input=act4.TEXT, stderr=subprocess.PIPE, check=False)
+        same((done.returncode, done.stderr), (2, b"ti: standard output is closed\n"), words)
+        same(files(), before, words)
+        with open("/dev/full", "wb") as full:
+            done = subprocess.run([TI, *words], cwd=folder, input=act4.TEXT, stdout=full,
+                                  stderr=subprocess.PIPE, check=False)
+        same((done.returncode, done.stderr),
+             (2, b"ti: standard output: No space left on device\n"), words)
+        same(files(), {**before, "out": act4.dumped()}, words)
+        runs += 2
+    put("out", OLD)
+    before = files()
+    for words in (["compile", "out"], ["check", "-"], ["show", "-"], ["expand", "-", "cup"],
+                  ["merge", "-", "act", "out"]):
+        done = subprocess.run(["sh", "-c", 'exec "$@" <&-', "sh", TI, *words], cwd=folder,
+                              capture_output=True, check=False)
+        same((done.returncode, done.stdout), (2, b""), words)
+        same(done.stderr, b"ti: standard input: Bad file descriptor\n", words)
+        runs += 1
+    same(files(), before, "files")
+    return runs
+
+
+def check_full_disk():
+    """A disk that takes no byte, or only some, by a limit on the size of files.
+
+    The signal of that limit stays ignored, so that a write fails as on a full disk.
+    """
+    put("act", act4.dumped())
+    runs = 0
+    for most in (0, 100):
+        for words in (["compile", "out"], ["compile", "new"], ["merge", "act", "act", "out"],
+                      ["merge", "act", "act", "new"]):
+            put("out", OLD)
+            before = files()
+            done = subprocess.run(
+                [TI, *words], cwd=folder, input=act4.TEXT, capture_output=True, check=False,
+                restore_signals=False,
+                preexec_fn=lambda most=most: resource.setrlimit(resource.RLIMIT_FSIZE,
+                                                                (most, most)))
+            same((done.returncode, done.stdout), (2, b""), words)
+            same(done.stderr.endswith(b": File too large\n"), True, done.stderr)
+            same(files(), before, words)
+            runs += 1
+    return runs
+
+
+def check_no_rights():
+    """A file that may not be read, and a folder that may not be written to.
+
+    Root may do both, so that as root ti is run as another user.
+    """
+    user = OTHER_USER if os.geteuid() == 0 else []
+    folder.chmod(0o755)
+    closed = folder / "no-rights"
+    closed.mkdir()
+    put("no-rights/act", act4.dumped())
+    put("secret", act4.dumped())
+    closed.chmod(0o555)
+    (folder / "secret").chmod(0)
+    if user and (not shutil.which(user[0]) or subprocess.run(
+            [*user, TI, "check", "no-rights/act"], cwd=folder, capture_output=True,
+            check=False).returncode):
+        print("rights of files: not tried, another user can't run ti here")
+        return 0
+    before = {name: file for name, file in files().items() if name != "secret"}
+    act, secret, out = "no-rights/act", "secret", "no-rights/out"
+    words_of = [["check", secret], ["show", secret], ["expand", secret, "cup"],
+                ["merge", secret, act, out], ["merge", act, secret, out], ["merge", act, act, out],
+                ["merge", act, act, act], ["compile", out], ["compile", act]]
+    for words in words_of:
+        done = subprocess.run([*user, TI, *words], cwd=folder, input=act4.TEXT,
+                              capture_output=True, check=False)
+        same((done.returncode, done.stdout), (2, b""), words)
+        same(done.stderr.endswith(b": Permission denied\n"), True, done.stderr)
+    closed.chmod(0o755)
+    (folder / "secret").unlink()
+    same(files(), before, "files")
+    return len(words_of)
+
+
 def check_help():
     status, printed, errors = raw("help")
     same((status, errors), (0, ""), "help")
@@ -345,7 +474,9 @@ def check_help():
     for word in words:
         found = raw("help", word)
         same((found[0], found[2], found[1].startswith(f"ti {word}".encode())), (0, "", True), word)
-    return len(words) + 1
+    for word in ("--help", "-h"):
+        same(raw(word), raw("help"), word)
+    return len(words) + 3
 
 
 def check_generated():
@@ -368,5 +499,6 @@ if __name__ == "__main__":
         rng.seed(SEED)
         counts = [check() for check in (
             check_help, check_examples, check_names, check_failures, check_generated, check_files,
-            check_merges, check_expansions, check_bad_files)]
+            check_merges, check_expansions, check_bad_files, check_long_names,
+            check_closed_streams, check_full_disk, check_no_rights)]
     print(f"{sum(counts)} runs of ti as stated, on document 01's examples and generated input")
