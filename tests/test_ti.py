@@ -107,8 +107,9 @@ def check_names():
     for name in names:
         same(ti("compile", name, text=act4.TEXT), (0, "compiled: 392 bytes\n", ""), name)
         same((folder / name).read_bytes(), act4.dumped(), name)
-    os.umask(0o027)
+    old = os.umask(0o027)
     same(ti("compile", "closed", text=act4.TEXT)[0], 0, "closed")
+    os.umask(old)
     same(oct((folder / "closed").stat().st_mode), "0o100640", "mode of the file")
     return len(names) + 1
 
@@ -337,10 +338,16 @@ def check_bad_files():
         done = subprocess.run(["sh", "-c", 'exec "$@" >&-', "sh", TI, *words], cwd=folder,
                               stderr=subprocess.PIPE, check=False)
         runs.append((done.returncode, b"", done.stderr.decode()))
+        ends = os.pipe()
+        os.close(ends[0])
+        done = subprocess.run([TI, *words], cwd=folder, stdout=ends[1], stderr=subprocess.PIPE,
+                              check=False)
+        os.close(ends[1])
+        same((done.returncode, done.stderr), (2, b"ti: standard output: Broken pipe\n"), words)
     for status, printed, errors in runs:
         same((status, printed, errors == ""), (2, b"", False), errors)
     same(files(), before, "files")
-    return len(runs)
+    return len(runs) + 4
 
 
 def long_path(name):
@@ -427,7 +434,7 @@ def check_full_disk():
                 preexec_fn=lambda most=most: resource.setrlimit(resource.RLIMIT_FSIZE,
                                                                 (most, most)))
             same((done.returncode, done.stdout), (2, b""), words)
-            same(done.stderr.endswith(b": File too large\n"), True, done.stderr)
+            same(done.stderr, f"ti: {words[-1]}: File too large\n".encode(), words)
             same(files(), before, words)
             runs += 1
     return runs
@@ -444,6 +451,7 @@ def check_no_rights():
     closed.mkdir()
     put("no-rights/act", act4.dumped())
     put("secret", act4.dumped())
+    (closed / "act").chmod(0o644)
     closed.chmod(0o555)
     (folder / "secret").chmod(0)
     if user and (not shutil.which(user[0]) or subprocess.run(
@@ -453,18 +461,19 @@ def check_no_rights():
         return 0
     before = {name: file for name, file in files().items() if name != "secret"}
     act, secret, out = "no-rights/act", "secret", "no-rights/out"
-    words_of = [["check", secret], ["show", secret], ["expand", secret, "cup"],
-                ["merge", secret, act, out], ["merge", act, secret, out], ["merge", act, act, out],
-                ["merge", act, act, act], ["compile", out], ["compile", act]]
-    for words in words_of:
+    runs = [(["check", secret], secret), (["show", secret], secret),
+            (["expand", secret, "cup"], secret), (["merge", secret, act, out], secret),
+            (["merge", act, secret, out], secret), (["merge", act, act, out], out),
+            (["merge", act, act, act], act), (["compile", out], out), (["compile", act], act)]
+    for words, named in runs:
         done = subprocess.run([*user, TI, *words], cwd=folder, input=act4.TEXT,
                               capture_output=True, check=False)
         same((done.returncode, done.stdout), (2, b""), words)
-        same(done.stderr.endswith(b": Permission denied\n"), True, done.stderr)
+        same(done.stderr, f"ti: {named}: Permission denied\n".encode(), words)
     closed.chmod(0o755)
     (folder / "secret").unlink()
     same(files(), before, "files")
-    return len(words_of)
+    return len(runs)
 
 
 def check_help():

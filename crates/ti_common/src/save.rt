@@ -53,11 +53,11 @@ fn write_whole(fd: i32, file: &[u8]) -> bool {
 fn replace(path: &[u8], name: &[u8], file: &[u8]) -> bool {
     let fd = os::create(name);
     if fd < 0 {
-        fail(name);
+        fail(path);
         return false;
     }
     if !write_whole(fd, file) {
-        fail(name);
+        fail(path);
         os::unlink(name);
         return false;
     }

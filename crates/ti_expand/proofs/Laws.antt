@@ -1,24 +1,23 @@
 -- Laws that the proofs cite: magnitudes digit by digit, and words from their parts.
 -- Assumes nothing.
-use mathlib.Core.Path.{_≡_, refl, sym, ap, ap₂, _∙_}
+use mathlib.Core.Path.{_≡_, refl, sym, ap, _∙_}
 use mathlib.Core.Bool.{Bool, true, false, _&&_}
 use mathlib.Core.List.{List, [], _∷_, _++_}
-use Prim.Native.Nat.{ℕ, zero, suc, _+_, _-_, _*_, _≤_, _<_, _^_}
+use Prim.Native.Nat.{ℕ, zero, suc, _+_, _-_, _*_, _≤_, _<_}
 use native.Mathlib.Numerals.{add-one}
 use native.Mathlib.Omega.{arith}
-use lib.Dec.{eqb, leb}
-use lib.IntN.{ℤ, pos, negsuc, negℤ}
+use lib.Dec.{leb}
+use lib.IntN.{ℤ, pos}
 use lib.ListN.{length, getD, take, drop, length-drop}
 use lib.Seq.{take-suc, take-length}
 use mir.Syntax.{w32}
 use mir.Val.{toZ}
 use mir.Facts.{toZ-pos, toZ-neg}
-use borrow.Author.Tests.{eq-eqb, ne-eqb, le-leb, lt-leb, leb-true, leb-false}
+use borrow.Author.Tests.{eq-eqb, ne-eqb, le-leb, lt-leb, leb-false}
 use Rattle.base.specs.If.{if_then_else_}
 use Rattle.expansion.specs.Items.{isDigit, decimal}
-use Rattle.ti_expand.specs.declared.number.Parsed.{Parsed}
 use Rattle.ti_expand.specs.declared.number.Parsed.the-variants.{Value, Wrong}
-use Rattle.ti_expand.specs.Number.{areDigits, isNumeral, signedOf, numeralOf, valueOf, withDigit, magnitudeOf, noMagnitude}
+use Rattle.ti_expand.specs.Number.{areDigits, signedOf, numeralOf, valueOf, withDigit, magnitudeOf, noMagnitude}
 
 -- ---- one digit more
 

@@ -24,7 +24,6 @@ use Rattle.entry.specs.Answer.{refused, gives}
 use Rattle.states.specs.Held.{IsPart}
 use Rattle.names.specs.Names.{ascii, parted, named, booleanNames, numberNames, stringNames, namesOf}
 use Rattle.names.specs.Naming.{packed, beforeNul, unpacked, naming}
-use Rattle.expansion.specs.Print.{digits}
 use Rattle.print.specs.DigitLaws.{digits-one, digits-more}
 use Rattle.ti_common.specs.Puts.{Puts, Holds, counted, puts-most, puts-then}
 use Rattle.ti_common.proofs.Laws.{digits-most}

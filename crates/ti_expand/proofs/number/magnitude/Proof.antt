@@ -1,12 +1,11 @@
 -- `ti_expand::number::magnitude` meets its contract: a digit a turn.
 -- Assumes nothing.
-use mathlib.Core.Path.{_≡_, ap, _∙_}
+use mathlib.Core.Path.{_∙_}
 use Prim.Native.Nat.{_-_, _≤_}
 use native.Mathlib.Omega.{arith}
 use lib.ListN.{length}
 use denote.Ref.{now}
 use borrow.Author.Needs.{needs}
-use Rattle.ti_expand.specs.Number.{magnitudeOf}
 use Rattle.ti_expand.proofs.Laws.{Magnitude, magnitude-start, magnitude-next, magnitude-end}
 use Rattle.ti_expand.proofs.number.magnitude.Statement.{statement}
 use Rattle.ti_expand.proofs.number.magnitude.Tie as tie

@@ -9,38 +9,27 @@ use Rattle.ti_common.specs.Puts.{puts-none, puts-most}
 use Rattle.ti_show.proofs.Laws.{name-packed, name-beyond}
 use Rattle.ti_show.proofs.lines.put_name.Statement.{statement}
 use Rattle.ti_show.proofs.lines.put_name.Tie as tie
-use Rattle.ti_show.proofs.lines.put_name.Reads as reads
-use Rattle.ti_show.proofs.lines.put_name.Lts as lts
-use Rattle.names.proofs.name_of.Reads as name-of-reads
-use Rattle.ti_show.proofs.lines.put_packed.Reads as put-packed-reads
 
--- src/lines.rt:57:11
 name-of-requires : tie.Need-name-of-requires
 name-of-requires c κs = search needs
 
--- src/lines.rt:58:22
 enum-known-name : tie.Need-enum-known-name
 enum-known-name c = search needs
 
--- src/lines.rt:58:31
 put-packed-requires : tie.Need-put-packed-requires
 put-packed-requires c κs = search needs
 
--- src/lines.rt:59:25
 enum-told : tie.Need-enum-told
 enum-told c = search needs
 
--- src/lines.rt:53:1
 same-length : tie.Need-same-length
 same-length c = search needs
 
--- src/lines.rt:53:1
 returns : tie.Need-returns
 returns c =
     let a = c .before .before .before .before .before .before .before .before .before .args in
     rw (name-packed (a .kind) (a .place) _ (ap saysName (sym (c .before .before .before .before .before .name .given .1)) ∙ c .before .before .before .before .before .before .before .name-of .ensures)) at (c .before .before .put-packed .ensures)
 
--- src/lines.rt:53:1
 returns-2 : tie.Need-returns-2
 returns-2 c =
     let a = c .before .before .before .before .args in

@@ -5,24 +5,16 @@ use borrow.Author.Needs.{needs}
 use Rattle.ti_common.specs.Puts.{puts-then}
 use Rattle.ti_show.proofs.lines.put_named.Statement.{statement}
 use Rattle.ti_show.proofs.lines.put_named.Tie as tie
-use Rattle.ti_show.proofs.lines.put_named.Reads as reads
-use Rattle.ti_show.proofs.lines.put_named.Lts as lts
-use Rattle.ti_show.proofs.lines.put_name.Reads as put-name-reads
-use Rattle.ti_show.proofs.lines.put_text.Reads as put-text-reads
 
--- src/lines.rt:68:9
 put-name-requires : tie.Need-put-name-requires
 put-name-requires c κs = search needs
 
--- src/lines.rt:69:5
 put-text-requires : tie.Need-put-text-requires
 put-text-requires c κs = search needs
 
--- src/lines.rt:64:1
 same-length : tie.Need-same-length
 same-length c = search needs
 
--- src/lines.rt:64:1
 returns : tie.Need-returns
 returns c = puts-then (c .before .before .before .before .before .before .put-name .ensures) (c .before .before .put-text .ensures) (omega (arith, c .before .before .before .before .before .before .before .before .before .before .pre))
 

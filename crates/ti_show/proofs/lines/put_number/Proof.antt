@@ -7,36 +7,25 @@ use Rattle.ti_common.proofs.Laws.{digits-most}
 use Rattle.ti_show.proofs.Laws.{number-puts}
 use Rattle.ti_show.proofs.lines.put_number.Statement.{statement}
 use Rattle.ti_show.proofs.lines.put_number.Tie as tie
-use Rattle.ti_show.proofs.lines.put_number.Reads as reads
-use Rattle.ti_show.proofs.lines.put_number.Lts as lts
-use Rattle.io.proofs.decimal.Reads as decimal-reads
-use Rattle.ti_show.proofs.lines.put_text.Reads as put-text-reads
 
--- src/lines.rt:78:9
 decimal-requires : tie.Need-decimal-requires
 decimal-requires c κs = search needs
 
--- src/lines.rt:79:33
 array-share-prefix-digits : tie.Need-array-share-prefix-digits
 array-share-prefix-digits c = search needs
 
--- src/lines.rt:79:33
 slice-aggregate-put-text : tie.Need-slice-aggregate-put-text
 slice-aggregate-put-text c = search needs
 
--- src/lines.rt:79:9
 put-text-requires : tie.Need-put-text-requires
 put-text-requires c κs = let d = c .before .before .decimal in omega (arith, d .ensures .0, digits-most (c .before .before .before .before .before .before .args .n) (d .result) (c .before .before .before .before .before .before .fits .n .fits) (d .ensures .1 .0))
 
--- src/lines.rt:80:5
 put-text-requires-2 : tie.Need-put-text-requires-2
 put-text-requires-2 c κs = let d = c .before .before .before .before .before .before .decimal in omega (arith, d .ensures .0, digits-most (c .before .before .before .before .before .before .before .before .before .before .args .n) (d .result) (c .before .before .before .before .before .before .before .before .before .before .fits .n .fits) (d .ensures .1 .0), c .before .before .before .put-text .ensures .few, c .before .before .before .put-text .kept .0)
 
--- src/lines.rt:73:1
 same-length : tie.Need-same-length
 same-length c = search needs
 
--- src/lines.rt:73:1
 returns : tie.Need-returns
 returns c =
     let a = c .before .before .before .before .before .before .before .before .before .before .before .before .before .args in

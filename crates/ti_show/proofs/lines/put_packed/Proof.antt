@@ -1,7 +1,6 @@
 -- `ti_show::lines::put_packed` meets its contract: a byte of the number a turn, up to its first NUL.
 -- Assumes nothing.
 use native.Mathlib.Omega.{arith}
-use lib.ListN.{length-set}
 use denote.Ref.{now}
 use Rattle.ti_show.proofs.Laws.{Unpacking, unpacking-start, unpacking-length, unpacking-room, unpacking-next, unpacking-end}
 use Rattle.ti_show.proofs.lines.put_packed.Statement.{statement}
