@@ -6,6 +6,8 @@ chain of calls, and the arguments that the caller puts there. No function calls 
 library's memcpy and memset count with their return address only.
 
     stack.py ARCHIVE HEADER
+
+It fails where the header says too little.
 """
 
 import re
@@ -111,7 +113,7 @@ def main(archive, header):
         if number is None or number < depth:
             wrong.append(call)
     if wrong:
-        print(f"\nThe header says too little of {', '.join(wrong)}.")
+        sys.exit(f"The header says too little of {', '.join(wrong)}.")
 
 
 if __name__ == "__main__":

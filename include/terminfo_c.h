@@ -231,7 +231,7 @@ uint64_t terminfo_write(size_t booleans, size_t numbers, size_t strings,
  * for the header (terminfo_value); 13 for all names together, with 0; 9; 8 (gives the file's
  * length: terminfo_value).
  *
- * Uses at most 10,784 bytes of stack. */
+ * Uses at most 9,504 bytes of stack. */
 uint64_t terminfo_compile(const uint8_t *text, size_t text_length, uint8_t *buffer,
                           size_t buffer_length);
 
@@ -253,7 +253,7 @@ uint64_t terminfo_compile(const uint8_t *text, size_t text_length, uint8_t *buff
  * (edition), 1 to 7 as terminfo_open gives them for the first file, 1 to 7 as it gives them for the
  * second file, 9, 8 (gives the merged file's length: terminfo_value).
  *
- * Uses at most 10,032 bytes of stack. */
+ * Uses at most 10,048 bytes of stack. */
 uint64_t terminfo_merge(const uint8_t *first, size_t first_length, const uint8_t *second,
                         size_t second_length, size_t booleans, size_t numbers, size_t strings,
                         uint8_t *buffer, size_t buffer_length);
@@ -266,7 +266,7 @@ uint64_t terminfo_merge(const uint8_t *first, size_t first_length, const uint8_t
  * Success gives the bytes of the name in bits 0 to 55, the first byte lowest, and zero bytes after
  * the last one. Refusal 17: the place is beyond the list, or there is no such kind.
  *
- * Uses at most 1,352 bytes of stack. */
+ * Uses at most 1,376 bytes of stack. */
 uint64_t terminfo_capability(uint8_t kind, size_t place);
 
 /* Expands a parameterized string and writes the output into the buffer from a place on.
@@ -303,7 +303,7 @@ uint64_t terminfo_capability(uint8_t kind, size_t place);
  * string's length for an open conditional), 15 and 16 (give the place of the item at which the
  * expansion stops), 8 (gives the output's length: terminfo_value).
  *
- * Uses at most 1,448 bytes of stack. */
+ * Uses at most 1,184 bytes of stack. */
 uint64_t terminfo_expand(const uint8_t *string, size_t string_length, const int32_t arguments[9],
                          int32_t lasting[26], uint8_t *buffer, size_t buffer_length, size_t at);
 

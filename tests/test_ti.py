@@ -28,7 +28,29 @@ SEED = 21
 GENERATED = 400
 FILES, MERGES, STRINGS = 300, 200, 300
 OLD = b"the file that was there before"
-REFUSED = re.compile(r"ti: (.*): refused (\d+): .*\n")
+REFUSED = re.compile(r"ti: (.*): refused (\d+): (.*)\n")
+SENTENCES = {
+    1: "wrong length (a file has 12 to 4,096 bytes, as many as its header says; a text at most "
+       "16,384; a string to expand at most 1,000)",
+    2: "the first short is not 282, the mark of compiled entries",
+    3: "a size in the header is out of range (names 2 to 128, others at most 32,767)",
+    4: "the names do not end in their only NUL",
+    5: "a boolean is none of 0, 1 and 254, or the pad byte is not 0",
+    6: "a number is above 32,767 and neither absent nor cancelled",
+    7: "a string's offset is outside the string table, or no NUL stands at or after it",
+    8: "too little room for the output",
+    9: "the compiled file would be longer than 4,096 bytes",
+    10: "malformed text",
+    11: "unknown capability, or one of another kind",
+    12: "use= is not covered",
+    13: "past a limit (alias 14 bytes, number 32,767 or 99 digits, string 1,000 bytes, all names "
+        "127 bytes)",
+    14: "malformed parameterized string",
+    15: "an item takes a value from the empty stack",
+    16: "an item puts a value on the full stack of 20",
+    17: "the place is beyond the edition or the buffer",
+}
+IN_HEADER = ", in the header, or there is none (byte 0)\n"
 OTHER_USER = ["setpriv", "--reuid=65534", "--regid=65534", "--clear-groups"]
 PATH_MOST = 4095  # the most bytes of a path on Linux
 PLACE = re.compile(r".*, at byte (\d+) \(counted from 0\), line (\d+), column (\d+) "
@@ -65,9 +87,13 @@ def compiled(name, text):
         same(after, {**before, name: file}, "files")
         return 0, None, file
     same((status, printed, after), (1, "", before), text)
-    name, number = REFUSED.match(errors).groups()
+    name, number, sentence = REFUSED.match(errors).groups()
     same(name, "standard input", errors)
     number = int(number)
+    same(sentence.startswith(SENTENCES[number]), True, errors)
+    if errors.endswith(IN_HEADER):
+        same(errors, f"ti: {name}: refused {number}: {SENTENCES[number]}{IN_HEADER}", text)
+        return number, 0, None
     place = PLACE.fullmatch(errors)
     same(place is not None, number in (10, 11, 12, 13), errors)
     if place is None:
@@ -147,7 +173,8 @@ def refused(found, name, number, tail=""):
     status, printed, errors = found
     same((status, printed), (1, b""), errors)
     said = REFUSED.fullmatch(errors)
-    same(said and said.groups(), (name, str(number)), errors)
+    same(said and said.groups()[:2], (name, str(number)), errors)
+    same(said[3].startswith(SENTENCES[number]), True, errors)
     same(errors.endswith(tail + "\n"), True, errors)
 
 

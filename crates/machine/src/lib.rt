@@ -12,8 +12,8 @@ ghost use Rattle.expansion.specs.Form.{classOf};
 ghost use Rattle.expansion.specs.Machine.{Value, arity, effect, loaded, stored, incremented};
 ghost use Rattle.machine.specs.Steps.{machine, SteppedAs};
 
-// What an item comes to once its values are popped: a value to push; the output's length; or items to pass over, up to the level's `%;` or,
-// where the flag is set, its next `%e`.
+// What an item comes to once its values are popped: a value to push; the output's length; or items to pass over, up to the level's `%;` and
+// with it, or to its next `%e` where the flag is set and there is one.
 pub enum Step {
     Push(i32),
     Go(usize),

@@ -9,7 +9,7 @@ ghost use Rattle.states.specs.Held.{IsPart};
 ghost use Rattle.expansion.specs.Expanding.{expanding};
 ghost use Rattle.expand.specs.Answers.{LentAs};
 ghost use Rattle.terminfo.specs.Entries.{entryOf, entryRefusal, entryNames, entryBoolean, entryNumber, entryString, entryBeyond, saysBeyond};
-ghost use Rattle.terminfo.specs.Lent.{zeroLasting, expandingAt, WrittenAs};
+ghost use Rattle.terminfo.specs.Lent.{zeroLasting, expandingGiven, expandingAt, WrittenAs};
 use caps::Edition;
 use caps::Place;
 use entry::Beyond;
@@ -110,7 +110,7 @@ pub fn beyond<'a>(e: Entry<'a>) -> BeyondEdition
     slices::beyond_in(e.file, e.numbers)
 }
 
-// Opens a file and gives the content of the string at a place. Its parameters are plain: a caller needs no walk.
+// Opens a file and gives the content of the string at a place. Its parameters are plain: a caller's proof is made by the check.
 // An empty part tells as little as that of `string_part`: `states::string` tells the state.
 pub fn open_string<'a>(file: &'a [u8], edition: Edition, place: Place) -> &'a [u8]
     ensures { λ r. ⌜ IsPart (file .entry) r (partGiven (askingString edition (now (file .entry)) place)) ⌝ }
@@ -141,8 +141,26 @@ pub fn zero_lasting() -> Lasting
     Lasting { values: [0; 26] }
 }
 
-// Opens a file and expands the string at a place, with lasting variables that are 0 at first and are let go. Its parameters are plain: a caller
-// needs no walk. Where no content is given, no bytes are expanded: `states::string` tells the state.
+// Opens a file and expands the content of the string at a place; no bytes where none is given.
+fn expand_given(
+    file: &[u8],
+    edition: Edition,
+    place: Place,
+    arguments: [i32; 9],
+    out: &mut [u8],
+    at: usize,
+) -> Expansion
+    ensures { λ r. ⌜ WrittenAs (expandingGiven edition (now (file .entry)) place arguments (length (now (out .entry))) at) (now (out .entry)) at (now (out .exit)) r ⌝ }
+{
+    let entry = open(file, edition);
+    let string = string_part(entry, place);
+    let mut lasting = zero_lasting();
+    expand(string, arguments, &mut lasting, out, at)
+}
+
+// Opens a file and expands the string at a place, with lasting variables that are 0 at first and are not given back. Its parameters are plain:
+// a caller's proof is made by the check. A place that can't be asked, or a file that can't be opened, is 17; an absent or a cancelled string
+// expands to no bytes.
 pub fn open_expand(
     file: &[u8],
     edition: Edition,
@@ -153,8 +171,10 @@ pub fn open_expand(
 ) -> Expansion
     ensures { λ r. ⌜ WrittenAs (expandingAt edition (now (file .entry)) place arguments (length (now (out .entry))) at) (now (out .entry)) at (now (out .exit)) r ⌝ }
 {
-    let entry = open(file, edition);
-    let string = string_part(entry, place);
-    let mut lasting = zero_lasting();
-    expand(string, arguments, &mut lasting, out, at)
+    match states::string(file, edition, place) {
+        StringState::Refused => Expansion::Place,
+        StringState::Absent => expand_given(file, edition, place, arguments, out, at),
+        StringState::Cancelled => expand_given(file, edition, place, arguments, out, at),
+        StringState::Present(_) => expand_given(file, edition, place, arguments, out, at),
+    }
 }

@@ -39,7 +39,9 @@ fn complain_file(number: usize) {
         4 => complain(b"the names do not end in their only NUL"),
         5 => complain(b"a boolean is none of 0, 1 and 254, or the pad byte is not 0"),
         6 => complain(b"a number is above 32,767 and neither absent nor cancelled"),
-        7 => complain(b"a string's offset is outside the string table, or no NUL follows it"),
+        7 => complain(
+            b"a string's offset is outside the string table, or no NUL stands at or after it",
+        ),
         8 => complain(b"too little room for the output"),
         _ => complain(b"the compiled file would be longer than 4,096 bytes"),
     }

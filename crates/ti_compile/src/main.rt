@@ -45,7 +45,8 @@ fn refuse_field(text: &[u8], number: usize, place: usize) -> Status
 {
     ti_common::refusal::begin_refusal(b"-", number);
     if place == 0 {
-        complain(b", in the header");
+        complain(b", in the header, or there is none (byte 0)\n");
+        return Status::Refused;
     }
     let p = position::position_of(text, place);
     complain(b", at byte ");

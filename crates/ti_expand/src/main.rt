@@ -30,7 +30,7 @@ fn parsed_at(i: usize) -> Parsed {
     if os::arg_count() <= i {
         return Parsed::Value(0);
     }
-    let mut word = [0u8; 64];
+    let mut word = io::buffer();
     let n = os::arg(i, &mut word);
     if os::errno() != 0 {
         return Parsed::Wrong;

@@ -1,6 +1,9 @@
 // Merges the compiled file that its first argument names over that of the second, to the file that the third names, in the first
 // edition and through the library only.
-// Proved: it is safe and ends. Assumed: what libc and os say of C.
+// Proved: it is safe and ends; a refusal's number is that of entry/specs. Assumed: what libc and os say of C.
+ghost use mathlib.Core.Path.{_≡_};
+ghost use Rattle.entry.specs.Answer.{numberOf};
+ghost use Rattle.entry.specs.Says.{saysMerged};
 use entry::FILE_MOST;
 use entry::Merged;
 use ti_common::FILE_ROOM;
@@ -9,16 +12,30 @@ use ti_common::Status;
 use ti_common::refusal::accept;
 use ti_common::refusal::refuse;
 
+// Document 01's number of the refusal; 0 where there is a file.
+fn number_of(answer: Merged) -> usize
+    ensures { λ r. ⌜ r ≡ numberOf (saysMerged answer) ⌝ }
+{
+    match answer {
+        Merged::File(_) => 0,
+        Merged::Refused(why) => ti_common::refusal::file_number(why),
+        Merged::Size => 9,
+        Merged::Room(_) => 8,
+    }
+}
+
 // Merges two accepted files and saves the file, or says why not.
 fn merge_to(out: &[u8], first: &[u8], second: &[u8]) -> Status {
     let mut file = [0u8; FILE_MOST];
-    match merge::merge(first, second, FIRST, &mut file) {
+    let answer = merge::merge(first, second, FIRST, &mut file);
+    let number = number_of(answer);
+    match answer {
         Merged::File(n) => {
             let k = ti_common::part(n, &file);
             ti_common::save::save_saying(out, &file[..k], b"merged: ")
         }
-        Merged::Refused(why) => refuse(out, ti_common::refusal::file_number(why)),
-        Merged::Size => refuse(out, 9),
+        Merged::Refused(_) => refuse(out, number),
+        Merged::Size => refuse(out, number),
         Merged::Room(n) => ti_common::refusal::refuse_room(out, n),
     }
 }

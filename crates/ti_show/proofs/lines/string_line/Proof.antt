@@ -19,7 +19,6 @@ use Rattle.ti_show.proofs.lines.string_line.Tie as tie
 string-requires : tie.Need-string-requires
 string-requires c κs = search needs
 
--- /work/h/a/target/rlib/ti_common.rlib/lang/src/lib.rt:10:29
 enum-told : tie.Need-enum-told
 enum-told c = search needs
 
