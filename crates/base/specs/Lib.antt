@@ -3,3 +3,4 @@ pub mod Scan
 pub mod Tabulate
 pub mod Overwrite
 pub mod Loop
+pub mod Answer

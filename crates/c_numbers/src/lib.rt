@@ -25,8 +25,10 @@ use text::TextRefusal;
 
 // A refusal's number stands in the top byte.
 pub const TOP: u64 = 72057594037927936;
+
 // A state's kind stands in the byte below it.
 const KIND: u64 = 281474976710656;
+
 // A part's start stands above its length.
 const START: u64 = 16777216;
 

@@ -2,41 +2,30 @@
 // in the first edition, and a refusal leaves the buffer as it was. Assumed: nothing.
 ghost use mathlib.Core.Path.{_≡_};
 ghost use mathlib.Core.Bool.{true};
-ghost use mathlib.Core.List.{[]};
 ghost use Prim.Native.Nat.{_+_, _<_};
 ghost use lib.ListN.{length};
-ghost use Rattle.caps.specs.Edition.{okEdition};
-ghost use Rattle.entry.specs.Answer.{Leaves, mapAnswer, bufferAfter};
+ghost use Rattle.edition.specs.Edition.{okEdition};
+ghost use Rattle.base.specs.Answer.{Leaves, mapAnswer, bufferAfter};
 ghost use Rattle.text.specs.declared.Header.{Header};
 ghost use Rattle.text.specs.declared.Header.the-variants as Headers;
 ghost use Rattle.text.specs.Heading.{headerAt};
 ghost use Rattle.text.specs.Describing.{headed};
 ghost use Rattle.names.specs.Names.{firstEdition};
 ghost use Rattle.text.specs.Compiling.{fitted, compiling, saysCompiled};
-use caps::BOOLEANS_MOST;
-use caps::Edition;
-use caps::NUMBERS_MOST;
-use caps::STRINGS_MOST;
+use edition::BOOLEANS_MOST;
+use edition::Edition;
+use edition::NUMBERS_MOST;
+use edition::STRINGS_MOST;
 use text::Compiled;
 use text::Header;
 use text::Line;
 use text::TEXT_MOST;
 use text::TextRefusal;
-
-mod file;
-mod keep;
-mod walk;
+use walk_fields::Walked;
 
 // The start and the length of a string that no field has given: nobody reads them, since its kind is absent. A word whose bytes differ, so
 // that an array is filled by stores of vectors and not by a call.
 const UNSET: usize = 1;
-
-// What the fields of a text come to.
-pub enum Walked {
-    Done,
-    // a refusal, and the field's first byte
-    Refused(TextRefusal, usize),
-}
 
 // Compiles a text whose header starts at a place and has its comma at another.
 fn compile_fields(
@@ -55,7 +44,7 @@ fn compile_fields(
     let mut string_kinds = [0u8; STRINGS_MOST];
     let mut string_starts = [UNSET; STRINGS_MOST];
     let mut string_lengths = [UNSET; STRINGS_MOST];
-    match walk::walk(
+    match walk_fields::walk(
         text,
         comma + 1,
         edition,
@@ -66,7 +55,7 @@ fn compile_fields(
         &mut string_starts,
         &mut string_lengths,
     ) {
-        Walked::Done => file::write(
+        Walked::Done => text_file::write(
             text,
             &text[at..comma],
             edition,
@@ -87,7 +76,7 @@ fn compile_headed(text: &[u8], at: usize, edition: Edition, buffer: &mut [u8]) -
     requires { ⌜ (okEdition edition ≡ true) × (at < length (now text)) ⌝ }
     ensures { λ r. ⌜ Leaves (fitted (length (now (buffer .entry))) (headed edition (now (text .entry)) at (headerAt (now (text .entry)) at))) (now (buffer .entry)) (now (buffer .exit)) (saysCompiled r) ⌝ }
 {
-    match fields::header::header_at(text, at) {
+    match text_header::header_at(text, at) {
         Header::Right(comma) => compile_fields(text, at, comma, edition, buffer),
         Header::Malformed => Compiled::Refused(TextRefusal::Malformed, 0),
         Header::LongAlias => Compiled::Refused(TextRefusal::Limit, 0),
@@ -102,7 +91,7 @@ fn compile_in(text: &[u8], edition: Edition, buffer: &mut [u8]) -> Compiled
     if TEXT_MOST < text.len() {
         return Compiled::Length;
     }
-    match lex::line_at(text, 0) {
+    match text_lines::line_at(text, 0) {
         Line::End => Compiled::Refused(TextRefusal::Malformed, 0),
         Line::Column(at) => compile_headed(text, at, edition, buffer),
         Line::Indented(_) => Compiled::Refused(TextRefusal::Malformed, 0),
@@ -113,13 +102,5 @@ fn compile_in(text: &[u8], edition: Edition, buffer: &mut [u8]) -> Compiled
 pub fn compile(text: &[u8], buffer: &mut [u8]) -> Compiled
     ensures { λ r. ⌜ (saysCompiled r ≡ mapAnswer length (compiling firstEdition (now (text .entry)) (length (now (buffer .entry))))) × (now (buffer .exit) ≡ bufferAfter (now (buffer .entry)) (compiling firstEdition (now (text .entry)) (length (now (buffer .entry))))) ⌝ }
 {
-    compile_in(
-        text,
-        Edition {
-            booleans: names::BOOLEANS,
-            numbers: names::NUMBERS,
-            strings: names::STRINGS,
-        },
-        buffer,
-    )
+    compile_in(text, names::FIRST_EDITION, buffer)
 }

@@ -6,11 +6,11 @@ use mathlib.Core.Bool.{true, false}
 use mathlib.Core.List.{List}
 use mathlib.Core.Logic.{_⊎_}
 use Prim.Native.Nat.{ℕ}
-use Rattle.caps.specs.declared.Edition.{Edition}
-use Rattle.caps.specs.declared.Place.{Place}
-use Rattle.caps.specs.Edition.{okEdition, knows, NoMore}
+use Rattle.edition.specs.declared.Edition.{Edition}
+use Rattle.edition.specs.declared.Place.{Place}
+use Rattle.edition.specs.Edition.{okEdition, knows, NoMore}
 use Rattle.entry.specs.State.{absent, mapState}
-use Rattle.entry.specs.Answer.{Answer, gives, mapAnswer, isGiven, numberOf}
+use Rattle.base.specs.Answer.{Answer, gives, mapAnswer, isGiven, numberOf}
 use Rattle.entry.specs.Reading.{Entry, bytesOf, heldBoolean, heldNumber, heldString}
 use Rattle.entry.specs.Asking.{opening, askingNames, askingBoolean, askingNumber, askingString}
 use Rattle.entry.specs.Writing.{Handed, entryOf, writing}

@@ -4,15 +4,15 @@ use mathlib.Core.Bool.{Bool, true, _&&_, not}
 use mathlib.Core.List.{List, []}
 use Prim.Native.Nat.{ℕ}
 use Rattle.base.specs.If.{if_then_else_}
-use Rattle.caps.specs.declared.Edition.{Edition}
-use Rattle.caps.specs.declared.Place.{Place}
-use Rattle.caps.specs.Edition.{okEdition, knows}
+use Rattle.edition.specs.declared.Edition.{Edition}
+use Rattle.edition.specs.declared.Place.{Place}
+use Rattle.edition.specs.Edition.{okEdition, knows}
 use Rattle.entry.specs.declared.Sizes.{Sizes}
 use Rattle.entry.specs.declared.Tables.{Tables}
 use Rattle.entry.specs.declared.Beyond.{Beyond}
 use Rattle.entry.specs.declared.Part.{Part}
 use Rattle.entry.specs.State.{State, mapState}
-use Rattle.entry.specs.Answer.{Answer, refused, gives, mapAnswer, isGiven}
+use Rattle.base.specs.Answer.{Answer, refused, gives, mapAnswer, isGiven}
 use Rattle.entry.specs.Layout.{sizesOf, tablesOf, beyondOf}
 use Rattle.entry.specs.Reading.{bytesOf, reading, namesPart, booleanIn, numberIn, partIn}
 

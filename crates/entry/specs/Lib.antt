@@ -1,9 +1,9 @@
 pub mod Limits
 pub mod State
-pub mod Answer
 pub mod Layout
 pub mod Reading
 pub mod Asking
 pub mod Writing
 pub mod Merging
 pub mod Says
+pub mod Handed

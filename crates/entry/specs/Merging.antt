@@ -7,12 +7,12 @@ use lib.Dec.{leb}
 use lib.ListN.{length}
 use Rattle.base.specs.If.{if_then_else_}
 use Rattle.base.specs.Tabulate.{tabulate}
-use Rattle.caps.specs.declared.Edition.{Edition}
-use Rattle.caps.specs.declared.Place.{Place}
-use Rattle.caps.specs.Edition.{okEdition, place}
+use Rattle.edition.specs.declared.Edition.{Edition}
+use Rattle.edition.specs.declared.Place.{Place}
+use Rattle.edition.specs.Edition.{okEdition, place}
 use Rattle.entry.specs.Limits.{fileMost}
 use Rattle.entry.specs.State.{State, absent, cancelled, present}
-use Rattle.entry.specs.Answer.{Answer, refused, gives, andThen}
+use Rattle.base.specs.Answer.{Answer, refused, gives, andThen}
 use Rattle.entry.specs.Layout.{sizesOf}
 use Rattle.entry.specs.Reading.{Entry, bytesOf, reading, namesPart, booleanIn, numberIn, stringIn}
 use Rattle.entry.specs.Writing.{encode}

@@ -11,15 +11,15 @@ use Rattle.base.specs.Scan.{every}
 use Rattle.base.specs.Tabulate.{tabulate}
 use Rattle.word.specs.Word.{word}
 pub use Rattle.word.specs.Nul.{nulFrom}
-use Rattle.caps.specs.declared.Edition.{Edition}
-use Rattle.caps.specs.declared.Place.{Place}
-use Rattle.caps.specs.Edition.{place}
+use Rattle.edition.specs.declared.Edition.{Edition}
+use Rattle.edition.specs.declared.Place.{Place}
+use Rattle.edition.specs.Edition.{place}
 use Rattle.entry.specs.declared.Sizes.{Sizes}
 use Rattle.entry.specs.declared.Offset.{Offset}
 use Rattle.entry.specs.declared.Part.{Part}
 use Rattle.entry.specs.Limits.{magic, headerSize, fileMost, shortMost, namesLeast, namesMost}
 use Rattle.entry.specs.State.{State, absent, mapState, half, slotOf, okSlot, okBoolean, booleanOf}
-use Rattle.entry.specs.Answer.{Answer, refused, gives}
+use Rattle.base.specs.Answer.{Answer, refused, gives}
 use Rattle.entry.specs.Layout.{sizesOf, booleansAt, padOf, numbersAt, stringsAt, tableAt, sizeOf}
 
 -- the bytes of a part

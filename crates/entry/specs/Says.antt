@@ -24,7 +24,7 @@ use Rattle.entry.specs.declared.Written.the-variants as W
 use Rattle.entry.specs.declared.Merged.{Merged}
 use Rattle.entry.specs.declared.Merged.the-variants as G
 use Rattle.entry.specs.State.{State, absent, cancelled, present}
-use Rattle.entry.specs.Answer.{Answer, refused, gives}
+use Rattle.base.specs.Answer.{Answer, refused, gives}
 use Rattle.entry.specs.Asking.{Opening}
 
 abbrev pub fileNumber : FileRefusal → ℕ

@@ -10,13 +10,13 @@ use Rattle.base.specs.Scan.{every}
 use Rattle.base.specs.Tabulate.{tabulate}
 use Rattle.word.specs.Word.{words}
 use Rattle.word.specs.Nul.{nulFrom}
-use Rattle.caps.specs.declared.Edition.{Edition}
-use Rattle.caps.specs.Edition.{okEdition}
+use Rattle.edition.specs.declared.Edition.{Edition}
+use Rattle.edition.specs.Edition.{okEdition}
 use Rattle.entry.specs.declared.Sizes.{Sizes}
 use Rattle.entry.specs.declared.Offset.{Offset}
 use Rattle.entry.specs.Limits.{magic, fileMost, shortMost, givenNamesMost, contentMost}
 use Rattle.entry.specs.State.{State, absent, cancelled, present, mapState, codeOf, booleanCode}
-use Rattle.entry.specs.Answer.{Answer, refused, gives}
+use Rattle.base.specs.Answer.{Answer, refused, gives}
 use Rattle.entry.specs.Layout.{padOf}
 use Rattle.entry.specs.Reading.{Entry, offset}
 

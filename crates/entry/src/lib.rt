@@ -2,21 +2,27 @@
 
 // The header's first short.
 pub const MAGIC: usize = 282;
+
 // The header's bytes: six shorts.
 pub const HEADER_SIZE: usize = 12;
+
 // A file's most bytes.
 pub const FILE_MOST: usize = 4096;
+
 // The most that a header's short may hold.
 pub const SHORT_MOST: usize = 32767;
+
 // A names size, with the NUL.
 pub const NAMES_LEAST: usize = 2;
 
 pub const NAMES_MOST: usize = 128;
+
 // A string's most bytes, from the writer's caller and from text.
 pub const CONTENT_MOST: usize = 1000;
 
 // The boolean byte of a cancelled capability.
 pub const CANCELLED_BYTE: u8 = 254;
+
 // The marks of a slot of two bytes, and the first number that it can't present.
 pub const ABSENT_MARK: usize = 65535;
 

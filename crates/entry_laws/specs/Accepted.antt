@@ -12,12 +12,12 @@ use Rattle.base.specs.If.{if_then_else_, and-left, and-right}
 use Rattle.base.specs.Scan.{scan-ge}
 use Rattle.word.specs.Word.{word}
 use Rattle.word.specs.Nul.{notNul, nulFrom}
-use Rattle.caps.specs.declared.Place.{Place}
+use Rattle.edition.specs.declared.Place.{Place}
 use Rattle.entry.specs.declared.Sizes.{Sizes}
 use Rattle.entry.specs.declared.Offset.{Offset}
 use Rattle.entry.specs.Limits.{magic, headerSize, fileMost, namesLeast, namesMost, givenNamesMost}
 use Rattle.entry.specs.State.{State, absent, cancelled, present, mapState, half}
-use Rattle.entry.specs.Answer.{Answer, refused, gives}
+use Rattle.base.specs.Answer.{Answer, refused, gives}
 use Rattle.entry.specs.Layout.{sizesOf, booleansAt, numbersAt, stringsAt, tableAt, sizeOf}
 use Rattle.entry.specs.Reading.{bytesOf, offset, okCounts, okNames, okBooleans, okPad, okNumbers, okOffset, okStrings, reading, namesPart, slotIn, numberIn, offsetIn, contentAt, partIn, stringIn}
 use Rattle.entry_laws.specs.Sound.{NoNul, NumberFits, ContentFree}

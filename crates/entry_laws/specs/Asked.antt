@@ -6,11 +6,11 @@ use mathlib.Core.List.{List, []}
 use lib.ListN.{length}
 use Prim.Native.Nat.{ℕ}
 use Rattle.base.specs.If.{if_then_else_}
-use Rattle.caps.specs.declared.Edition.{Edition}
-use Rattle.caps.specs.declared.Place.{Place}
-use Rattle.caps.specs.Edition.{okEdition}
+use Rattle.edition.specs.declared.Edition.{Edition}
+use Rattle.edition.specs.declared.Place.{Place}
+use Rattle.edition.specs.Edition.{okEdition}
 use Rattle.entry.specs.State.{mapState}
-use Rattle.entry.specs.Answer.{refused, gives, mapAnswer, isGiven}
+use Rattle.base.specs.Answer.{refused, gives, mapAnswer, isGiven}
 use Rattle.entry.specs.Layout.{sizesOf, tablesOf, beyondOf}
 use Rattle.entry.specs.Reading.{Entry, bytesOf, namesPart, booleanIn, numberIn, partIn, stringIn, heldBoolean, heldNumber, heldString, editionOf}
 use Rattle.entry.specs.Asking.{opening, openingOf, asking}

@@ -11,12 +11,12 @@ use borrow.Author.Tests.{leb-true, le-leb, ltb-false}
 use Rattle.base.specs.If.{if_then_else_, and-left, and-right}
 use Rattle.base.specs.Scan.{every, every-at, every-all}
 use Rattle.base.specs.Tabulate.{each-tabulate}
-use Rattle.caps.specs.declared.Edition.{Edition}
-use Rattle.caps.specs.declared.Place.{Place}
-use Rattle.caps.specs.Edition.{okEdition, knows}
+use Rattle.edition.specs.declared.Edition.{Edition}
+use Rattle.edition.specs.declared.Place.{Place}
+use Rattle.edition.specs.Edition.{okEdition, knows}
 use Rattle.entry.specs.Limits.{fileMost, shortMost, contentMost, givenNamesMost}
 use Rattle.entry.specs.State.{absent, mapState}
-use Rattle.entry.specs.Answer.{Answer, refused, gives, mapAnswer, isGiven}
+use Rattle.base.specs.Answer.{Answer, refused, gives, mapAnswer, isGiven}
 use Rattle.entry.specs.Reading.{Entry, bytesOf, heldBoolean, heldNumber, heldString, editionOf, view}
 use Rattle.entry.specs.Asking.{opening, askingNames, askingBoolean, askingNumber, askingString}
 use Rattle.entry.specs.Writing.{Handed, encode, entryOf, numberHanded, stringHanded, booleanFitsAt, numberFitsAt, stringFitsAt, enoughStates, namesFit, isLent, statesFit, writing}

@@ -10,8 +10,8 @@ use lib.ListN.{length, getD, take, drop, length-take, length-drop}
 use borrow.Author.Tests.{leb-true, eqb-true, eq-eqb, le-leb}
 use Rattle.base.specs.If.{if_then_else_, and-left, and-right}
 use Rattle.base.specs.Tabulate.{length-tabulate}
-use Rattle.caps.specs.declared.Edition.{Edition}
-use Rattle.caps.specs.Edition.{okEdition}
+use Rattle.edition.specs.declared.Edition.{Edition}
+use Rattle.edition.specs.Edition.{okEdition}
 use Rattle.entry.specs.Limits.{shortMost, contentMost}
 use Rattle.entry.specs.State.{State, absent, cancelled, present}
 use Rattle.entry.specs.Reading.{editionOf}

@@ -11,12 +11,12 @@ use lib.ListN.{length, getD, length-append}
 use borrow.Author.Tests.{leb-true, le-leb}
 use Rattle.base.specs.If.{true-false, and-left, and-right}
 use Rattle.base.specs.Tabulate.{tabulate, length-tabulate, getD-tabulate, each-tabulate}
-use Rattle.caps.specs.declared.Edition.{Edition}
-use Rattle.caps.specs.Edition.{okEdition, place, booleansMost, numbersMost, stringsMost, NoMore}
+use Rattle.edition.specs.declared.Edition.{Edition}
+use Rattle.edition.specs.Edition.{okEdition, place, booleansMost, numbersMost, stringsMost, NoMore}
 use Rattle.entry.specs.declared.Sizes.{Sizes}
 use Rattle.entry.specs.Limits.{fileMost}
 use Rattle.entry.specs.State.{State, absent, cancelled, present}
-use Rattle.entry.specs.Answer.{Answer, refused, gives, andThen, isGiven}
+use Rattle.base.specs.Answer.{Answer, refused, gives, andThen, isGiven}
 use Rattle.entry.specs.Layout.{sizesOf}
 use Rattle.entry.specs.Reading.{reading, editionOf}
 use Rattle.entry.specs.Writing.{stringTable, sizesFor, encode}

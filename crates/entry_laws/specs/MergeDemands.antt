@@ -11,11 +11,11 @@ use lib.Dec.{leb}
 use lib.ListN.{length}
 use borrow.Author.Tests.{leb-true, le-leb, ltb-true}
 use Rattle.base.specs.If.{if_then_else_}
-use Rattle.caps.specs.declared.Edition.{Edition}
-use Rattle.caps.specs.Edition.{okEdition, place, NoMore}
+use Rattle.edition.specs.declared.Edition.{Edition}
+use Rattle.edition.specs.Edition.{okEdition, place, NoMore}
 use Rattle.entry.specs.Limits.{fileMost}
 use Rattle.entry.specs.State.{absent}
-use Rattle.entry.specs.Answer.{Answer, refused, gives, andThen, isGiven, numberOf}
+use Rattle.base.specs.Answer.{Answer, refused, gives, andThen, isGiven, numberOf}
 use Rattle.entry.specs.Reading.{reading}
 use Rattle.entry.specs.Writing.{encode}
 use Rattle.entry.specs.Merging.{mergedBoolean, mergedNumber, mergedString, merged, merging}

@@ -9,7 +9,7 @@ use lib.Dec.{lit<}
 use lib.ListN.{length, getD, length-append, length-map, List·getD-append}
 use lib.Seq.{getD-append-add}
 use Rattle.word.specs.Word.{word, words, Below}
-use Rattle.word.specs.WordLaws.{length-words, word-skip, word-words}
+use Rattle.word.proofs.WordLaws.{length-words, word-skip, word-words}
 use Rattle.entry.specs.declared.Offset.{Offset}
 use Rattle.entry.specs.Limits.{headerSize}
 use Rattle.entry.specs.State.{State, absent, cancelled, present, booleanCode}

@@ -14,15 +14,15 @@ use Rattle.base.specs.Scan.{every, every-all}
 use Rattle.base.specs.Tabulate.{tabulate, Each, tabulate-ext, tabulate-getD}
 use Rattle.word.specs.Word.{word, Below}
 use Rattle.word.specs.Nul.{nulFrom}
-use Rattle.word.specs.WordLaws.{word-words}
-use Rattle.caps.specs.declared.Edition.{Edition}
-use Rattle.caps.specs.declared.Place.{Place}
-use Rattle.caps.specs.Edition.{place}
+use Rattle.word.proofs.WordLaws.{word-words}
+use Rattle.edition.specs.declared.Edition.{Edition}
+use Rattle.edition.specs.declared.Place.{Place}
+use Rattle.edition.specs.Edition.{place}
 use Rattle.entry.specs.declared.Sizes.{Sizes}
 use Rattle.entry.specs.declared.Offset.{Offset}
 use Rattle.entry.specs.Limits.{magic, headerSize, fileMost, shortMost, namesLeast, namesMost}
 use Rattle.entry.specs.State.{State, absent, cancelled, present, mapState, half, okSlot, okBoolean, booleanCode}
-use Rattle.entry.specs.Answer.{gives}
+use Rattle.base.specs.Answer.{gives}
 use Rattle.entry.specs.Layout.{sizesOf, booleansAt, padOf, numbersAt, stringsAt, tableAt, sizeOf}
 use Rattle.entry.specs.Reading.{Entry, bytesOf, offset, okCounts, okNames, okBooleans, okPad, okNumbers, okOffset, okStrings, reading, namesPart, booleanIn, numberIn, offsetIn, contentAt, partIn, stringIn, heldBoolean, heldNumber, heldString, editionOf, view}
 use Rattle.entry.specs.Writing.{offsets, stringTable, sizesFor, header, padding, encode}

@@ -13,7 +13,7 @@ use Rattle.base.specs.If.{if_then_else_, true-false, below-or}
 use Rattle.base.specs.Scan.{every, every-at, every-all}
 use Rattle.base.specs.Tabulate.{Each, each-at}
 use Rattle.word.specs.Word.{word, words, Below}
-use Rattle.caps.specs.declared.Place.{Place}
+use Rattle.edition.specs.declared.Place.{Place}
 use Rattle.entry.specs.State.{State, absent, cancelled, present, absentMark, cancelledMark, slotOf, codeOf, okSlot, okBoolean, booleanOf, booleanCode}
 use Rattle.entry.specs.Reading.{slotIn}
 use Rattle.entry_laws.specs.Parts.{part-word}

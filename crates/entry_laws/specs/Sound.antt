@@ -6,8 +6,8 @@ use mathlib.Core.List.{List}
 use Prim.Native.Nat.{ℕ, _≤_}
 use lib.ListN.{length}
 use Rattle.base.specs.Tabulate.{Each}
-use Rattle.caps.specs.declared.Edition.{Edition}
-use Rattle.caps.specs.Edition.{okEdition}
+use Rattle.edition.specs.declared.Edition.{Edition}
+use Rattle.edition.specs.Edition.{okEdition}
 use Rattle.entry.specs.Limits.{fileMost, shortMost, givenNamesMost}
 use Rattle.entry.specs.State.{State, absent, cancelled, present}
 use Rattle.entry.specs.Reading.{Entry, editionOf}

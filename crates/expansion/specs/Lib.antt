@@ -2,6 +2,5 @@ pub mod Limits
 pub mod Items
 pub mod Form
 pub mod Print
-pub mod Emit
 pub mod Machine
 pub mod Expanding

@@ -1,6 +1,6 @@
 -- Document 01's numbers for expansion, and the bounds on output that its proofs go by, each by one name.
 -- Assumes nothing.
-use Prim.Native.Nat.{ℕ, _*_}
+use Prim.Native.Nat.{ℕ}
 
 -- "The string has at most 1,000 bytes"
 abbrev pub stringMost : ℕ
@@ -17,11 +17,3 @@ nestMost = 16
 -- the largest constant
 abbrev pub constantMost : ℕ
 constantMost = 2147483647
-
--- an item prints no more bytes than this, whatever width a byte holds
-abbrev pub printedMost : ℕ
-printedMost = 255
-
--- a string prints no more bytes than this: it has no more items than bytes
-abbrev pub outputMost : ℕ
-outputMost = printedMost * stringMost

@@ -1,115 +1,26 @@
-// Fields and headers of source text (document 01: Source text). Proved: each function answers every text and place as text/specs says.
+// The fields of source text (document 01: Source text). Proved: each function answers every text and place as text/specs says.
 // Assumed: nothing.
 ghost use mathlib.Core.Path.{_≡_};
-ghost use Prim.Native.Nat.{_+_, _-_, _≤_, _<_, _^_, min};
+ghost use Prim.Native.Nat.{_+_, _-_, _≤_, _<_};
 ghost use lib.ListN.{length};
-ghost use Rattle.text.specs.Bytes.{baseOf};
-ghost use Rattle.text.specs.Numbers.{numberMost, withDigits, digitsAt, numberAt};
 ghost use Rattle.text.specs.Fields.{formAt, namedAt, fieldAt};
-ghost use Rattle.fields.specs.Bases.{baseAt, firstDigit};
-use text::Base;
-use text::Class;
 use text::Content;
-use text::DIGITS_MOST;
 use text::Field;
 use text::Form;
 use text::Formed;
-use text::NUMBER_MOST;
-
-pub mod header;
-
-fn base_of(base: Base) -> usize
-    ensures { λ r. ⌜ r ≡ baseOf base ⌝ }
-{
-    match base {
-        Base::Octal => 8,
-        Base::Decimal => 10,
-        Base::Hexadecimal => 16,
-    }
-}
-
-// The value of the digits from at to end, or, where it is above the most of a number, one above that.
-fn value_of(text: &[u8], base: usize, at: usize, end: usize) -> usize
-    requires { ⌜ ((1 ≤ base) × (base ≤ 16)) × ((at ≤ «end») × («end» ≤ length (now text))) ⌝ }
-    ensures { λ r. ⌜ r ≡ min (withDigits base (now (text .entry)) at («end» - at) 0) (numberMost + 1) ⌝ }
-{
-    let mut v = 0;
-    let mut i = at;
-    while i < end {
-        v = v * base + lex::digit(text[i]) as usize;
-        if NUMBER_MOST < v {
-            return NUMBER_MOST + 1;
-        }
-        i += 1;
-    }
-    v
-}
-
-// The number that stands in the digits from at on.
-fn digits_at(text: &[u8], base: Base, at: usize) -> Formed
-    ensures { λ r. ⌜ r ≡ digitsAt base (now (text .entry)) at ⌝ }
-{
-    let past = lex::run_end(text, Class::Digit(base), at);
-    if past == at {
-        return Formed::Malformed;
-    }
-    if DIGITS_MOST < past - at {
-        return Formed::Right(Form::LargeNumber, past);
-    }
-    let value = value_of(text, base_of(base), at, past);
-    if NUMBER_MOST < value {
-        return Formed::Right(Form::LargeNumber, past);
-    }
-    Formed::Right(Form::Number(value as u32), past)
-}
-
-// The base of the number at a place.
-fn base_at(text: &[u8], at: usize) -> Base
-    requires { ⌜ at ≤ length (now text) ⌝ }
-    ensures { λ r. ⌜ r ≡ baseAt (now (text .entry)) at ⌝ }
-{
-    if lex::byte_at(text, at) != b'0' {
-        return Base::Decimal;
-    }
-    let x = lex::byte_at(text, at + 1);
-    match x {
-        b'x' | b'X' => Base::Hexadecimal,
-        _ => Base::Octal,
-    }
-}
-
-// The first digit of a number at a place: `0x` is no part of the digits.
-fn first_digit(base: Base, at: usize) -> usize
-    requires { ⌜ at + 2 < 2 ^ 64 ⌝ }
-    ensures { λ r. ⌜ r ≡ firstDigit base at ⌝ }
-{
-    match base {
-        Base::Octal => at,
-        Base::Decimal => at,
-        Base::Hexadecimal => at + 2,
-    }
-}
-
-// The number at a place.
-fn number_at(text: &[u8], at: usize) -> Formed
-    requires { ⌜ at ≤ length (now text) ⌝ }
-    ensures { λ r. ⌜ r ≡ numberAt (now (text .entry)) at ⌝ }
-{
-    let base = base_at(text, at);
-    digits_at(text, base, first_digit(base, at))
-}
+use text_numbers::number_at;
 
 // What stands behind a name.
 fn form_at(text: &[u8], at: usize) -> Formed
     requires { ⌜ at ≤ length (now text) ⌝ }
     ensures { λ r. ⌜ r ≡ formAt (now (text .entry)) at ⌝ }
 {
-    let b = lex::byte_at(text, at);
+    let b = text_bytes::byte_at(text, at);
     match b {
         b',' => Formed::Right(Form::Boolean, at),
         b'@' => Formed::Right(Form::Cancelled, at + 1),
         b'#' => number_at(text, at + 1),
-        b'=' => match lex::content_at(text, at + 1) {
+        b'=' => match contents::content_at(text, at + 1) {
             Content::Whole(n, k) => Formed::Right(Form::String(at + 1, n), k),
             Content::Malformed => Formed::Malformed,
         },
@@ -122,13 +33,13 @@ fn named_at(text: &[u8], dropped: bool, at: usize) -> Field
     requires { ⌜ at ≤ length (now text) ⌝ }
     ensures { λ r. ⌜ r ≡ namedAt (now (text .entry)) dropped at ⌝ }
 {
-    let end = lex::name_end(text, at);
+    let end = text_bytes::name_end(text, at);
     if end == at {
         return Field::Malformed;
     }
     match form_at(text, end) {
         Formed::Right(form, k) => {
-            if lex::byte_at(text, k) != b',' {
+            if text_bytes::byte_at(text, k) != b',' {
                 return Field::Malformed;
             }
             Field::Right {

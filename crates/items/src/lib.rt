@@ -1,97 +1,22 @@
-// The items of a parameterized string (document 01: Expansion). Proved: `item_at` and `classes::class_at` are itemAt and classAt of the
-// crate expansion at each place of each string. Assumed: nothing.
+// The items of a parameterized string (document 01: Expansion). Proved: `item_at` is itemAt of the crate expansion at each place of each
+// string. Assumed: nothing.
+ghost use mathlib.Core.Path.{_≡_};
+ghost use Prim.Native.Nat.{_+_, _≤_, _<_};
+ghost use lib.ListN.{length};
+ghost use Rattle.expansion.specs.Items.{lexed, argumentAt, quotedAt, bracedAt, storeAt, loadAt, formatAt, widthAt, percentAt, itemAt};
+ghost use Rattle.expansion.specs.declared.Item.the-variants.{Number};
+ghost use Rattle.item_parts.specs.Classes.{otherAt};
 use expansion::Base;
 use expansion::Item;
 use expansion::Lexed;
 use expansion::Operator;
-ghost use mathlib.Core.Path.{_≡_};
-ghost use Prim.Native.Nat.{_+_, _≤_, _<_};
-ghost use lib.ListN.{length};
-ghost use Rattle.expansion.specs.Items.{byteAt, isDigit, isNonzero, isLetter, lexed, argumentAt, quotedAt, bracedAt, storeAt, loadAt, formatAt, widthAt, percentAt, itemAt};
-ghost use Rattle.expansion.specs.declared.Item.the-variants.{Number};
-ghost use Rattle.items.specs.Classes.{quoted, lexedConstant, otherAt};
-
-pub mod classes;
-
-// The largest constant.
-const CONSTANT_MOST: u64 = 2147483647;
-
-// The byte at a place, or NUL past the end.
-fn byte_at(s: &[u8], i: usize) -> u8
-    ensures { λ r. ⌜ r ≡ byteAt (now (s .entry)) i ⌝ }
-{
-    if i < s.len() { s[i] } else { 0 }
-}
-
-fn is_digit(c: u8) -> bool
-    ensures { λ r. ⌜ r ≡ isDigit c ⌝ }
-{
-    48 <= c && c <= 57
-}
-
-fn is_nonzero(c: u8) -> bool
-    ensures { λ r. ⌜ r ≡ isNonzero c ⌝ }
-{
-    49 <= c && c <= 57
-}
-
-fn is_letter(c: u8) -> bool
-    ensures { λ r. ⌜ r ≡ isLetter c ⌝ }
-{
-    if 97 <= c {
-        return c <= 122;
-    }
-    65 <= c && c <= 90
-}
-
-// A constant in braces and the place behind it, or none.
-enum Braced {
-    Constant { value: i32, next: usize },
-    Wrong,
-}
-
-// `%{digits}`
-fn braced_at(s: &[u8], j: usize) -> Braced
-    requires { ⌜ j ≤ length (now s) ⌝ }
-    ensures { λ r. ⌜ lexedConstant r j ≡ bracedAt (now (s .entry)) j ⌝ }
-{
-    if !is_digit(byte_at(s, j + 1)) {
-        return Braced::Wrong;
-    }
-    let mut i = j + 1;
-    let mut v: u64 = 0;
-    while i < s.len() {
-        let c = s[i];
-        if c == b'}' {
-            return Braced::Constant {
-                value: v as i32,
-                next: i + 1,
-            };
-        }
-        if !is_digit(c) {
-            return Braced::Wrong;
-        }
-        v = v * 10 + (c - 48) as u64;
-        if v > CONSTANT_MOST {
-            return Braced::Wrong;
-        }
-        i += 1;
-    }
-    Braced::Wrong
-}
-
-// Whether the two bytes behind `%'` are a byte that is no NUL and `'`.
-fn is_quoted(s: &[u8], j: usize) -> bool
-    requires { ⌜ j ≤ length (now s) ⌝ }
-    ensures { λ r. ⌜ r ≡ quoted (now (s .entry)) j ⌝ }
-{
-    if byte_at(s, j + 1) == 0 {
-        return false;
-    }
-    byte_at(s, j + 2) == 39
-}
-
-// ---- items
+use item_parts::Braced;
+use item_parts::braced_at;
+use item_parts::byte_at;
+use item_parts::is_digit;
+use item_parts::is_letter;
+use item_parts::is_nonzero;
+use item_parts::is_quoted;
 
 fn lexed(item: Item, next: usize) -> Lexed
     ensures { λ r. ⌜ r ≡ lexed item next ⌝ }

@@ -8,15 +8,15 @@ use native.Mathlib.Omega.{arith}
 use lib.Dec.{eqb}
 use lib.ListN.{length, getD, take, drop}
 use borrow.Author.Tests.{le-leb, lt-leb}
-use Rattle.caps.specs.declared.Place.{Place}
-use Rattle.caps.specs.declared.Edition.{Edition}
+use Rattle.edition.specs.declared.Place.{Place}
+use Rattle.edition.specs.declared.Edition.{Edition}
 use Rattle.entry.specs.Limits.{contentMost}
 use Rattle.entry.specs.Writing.{stateOf}
 use Rattle.names.specs.declared.Found.{Found}
 use Rattle.names.specs.declared.Found.the-variants as N
 use Rattle.names.specs.Names.{ascii}
 use Rattle.names.specs.Lookup.{sameBytes, lookingUp}
-use Rattle.names.specs.LookupLaws.{never, same-eq, found-in}
+use Rattle.names.proofs.LookupLaws.{never, same-eq, found-in}
 use Rattle.text.specs.declared.Form.{Form}
 use Rattle.text.specs.declared.Form.the-variants as F
 use Rattle.text.specs.declared.Said.the-variants as S

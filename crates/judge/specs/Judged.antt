@@ -4,9 +4,9 @@ use mathlib.Core.Path.{_≡_}
 use mathlib.Core.List.{List, [], _∷_}
 use Prim.Native.Nat.{ℕ, _<_, _≤_}
 use lib.ListN.{length}
-use Rattle.caps.specs.declared.Edition.{Edition}
+use Rattle.edition.specs.declared.Edition.{Edition}
 use Rattle.entry.specs.Limits.{contentMost}
-use Rattle.entry.specs.Answer.{Answer, refused, gives}
+use Rattle.base.specs.Answer.{Answer, refused, gives}
 use Rattle.entry.specs.Writing.{stateOf}
 use Rattle.text.specs.declared.Said.{Said}
 use Rattle.text.specs.declared.Said.the-variants as S

@@ -3,10 +3,10 @@
 use mathlib.Core.Path.{_≡_}
 use mathlib.Core.List.{List}
 use Prim.Native.Nat.{ℕ}
-use Rattle.caps.specs.declared.Edition.{Edition}
-use Rattle.entry.specs.Answer.{Answer, mapAnswer}
+use Rattle.edition.specs.declared.Edition.{Edition}
+use Rattle.base.specs.Answer.{Answer, mapAnswer}
 use Rattle.names.specs.declared.Found.{Found}
-use Rattle.names.specs.LookupLaws.{FoundIn}
+use Rattle.names.proofs.LookupLaws.{FoundIn}
 use Rattle.text.specs.declared.Form.{Form}
 use Rattle.text.specs.declared.Form.the-variants as F
 use Rattle.text.specs.declared.Judged.{Judged}

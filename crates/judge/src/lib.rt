@@ -9,8 +9,8 @@ ghost use Rattle.names.specs.declared.Found.the-variants as Capability;
 ghost use Rattle.text.specs.Describing.{isUse, judging};
 ghost use Rattle.judge.specs.Judged.{saysJudged, JudgedIn};
 ghost use Rattle.judge.specs.Kinds.{Judges, JudgesNamed};
-use caps::Edition;
-use caps::Place;
+use edition::Edition;
+use edition::Place;
 use entry::CANCELLED;
 use entry::CONTENT_MOST;
 use entry::PRESENT;
@@ -111,7 +111,7 @@ fn judge_named(name: &[u8], form: Form, next: usize, edition: Edition) -> Judged
     if is_use_field(name, form) {
         return Judged::Refused(TextRefusal::Use);
     }
-    judge_found(names::find::find(name, edition), form, next)
+    judge_found(lookup::find(name, edition), form, next)
 }
 
 // The field whose first byte is at a place.

@@ -12,10 +12,11 @@ use Rattle.base.specs.If.{if_then_else_}
 use Rattle.base.specs.Overwrite.{putAt, put-nil}
 use Rattle.expansion.specs.declared.Item.{Item}
 use Rattle.expansion.specs.declared.Item.the-variants as I
-use Rattle.expansion.specs.Emit.{emitted}
+use Rattle.print.specs.Emit.{emitted}
 use Rattle.expansion.specs.Machine.{Value, Machine, Effect, prints, pushes, stores, increments, toElse, toEnd, arity, effect, loaded, stored, incremented}
 use Rattle.machine.specs.declared.Step.the-variants.{Go}
-use Rattle.machine.specs.Steps.{machine, machineAfter}
+use Rattle.variables.specs.Machines.{machine}
+use Rattle.machine.specs.Steps.{machineAfter}
 
 pub emitted-nothing : (b : List ℕ) (at : ℕ) → b ≡ emitted b at []
 unfolding emitted

@@ -4,16 +4,12 @@ use mathlib.Core.Path.{_≡_}
 use mathlib.Core.Bool.{true, false}
 use mathlib.Core.List.{List, []}
 use Prim.Native.Nat.{ℕ, _+_, _≤_}
-use lib.IntN.{ℤ}
 use lib.ListN.{length}
-use Rattle.expansion.specs.Limits.{printedMost}
-use Rattle.expansion.specs.Emit.{emitted}
-use Rattle.expansion.specs.Machine.{Value, Machine, Effect, prints, pushes, stores, increments, toElse, toEnd, stored, incremented, withArguments}
+use Rattle.print.specs.Bounds.{printedMost}
+use Rattle.print.specs.Emit.{emitted}
+use Rattle.expansion.specs.Machine.{Machine, Effect, prints, pushes, stores, increments, toElse, toEnd, stored, incremented, withArguments}
 use Rattle.machine.specs.declared.Step.{Step}
 use Rattle.machine.specs.declared.Step.the-variants.{Push, Go, Pass}
-
-abbrev pub machine : List Value → List ℤ → List ℤ → List ℤ → Machine
-machine stack arguments locals lasting = record { stack = stack; arguments = arguments; locals = locals; lasting = lasting }
 
 -- what a step answers; w is the output's length before it
 unfoldable pub stepOf : Effect → ℕ → Step

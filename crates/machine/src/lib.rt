@@ -1,16 +1,20 @@
-// The machine that expands a string, item by item (document 01: Expansion): how many values an item pops, its class, the variables, and
-// what it does once its values are popped. Proved: each function is its definition of expansion/specs. Assumed: nothing.
-use expansion::Class;
-use expansion::Item;
+// The machine that expands a string, item by item (document 01: Expansion): how many values an item pops, its class, and what it does once
+// its values are popped. Proved: each function is its definition of expansion/specs. Assumed: nothing.
 ghost use mathlib.Core.Path.{_≡_};
 ghost use mathlib.Core.List.{List};
 ghost use Prim.Native.Nat.{_-_, _≤_};
-ghost use lib.IntN.{ℤ, pos};
-ghost use lib.ListN.{length, getD, set};
-ghost use Rattle.expansion.specs.Limits.{outputMost};
+ghost use lib.ListN.{length};
+ghost use Rattle.print.specs.Bounds.{outputMost};
 ghost use Rattle.expansion.specs.Form.{classOf};
-ghost use Rattle.expansion.specs.Machine.{Value, arity, effect, loaded, stored, incremented};
-ghost use Rattle.machine.specs.Steps.{machine, SteppedAs};
+ghost use Rattle.expansion.specs.Machine.{Value, arity, effect};
+ghost use Rattle.variables.specs.Machines.{machine};
+ghost use Rattle.machine.specs.Steps.{SteppedAs};
+use expansion::Class;
+use expansion::Item;
+use variables::increment;
+use variables::load;
+use variables::store;
+use variables::value_at;
 
 // What an item comes to once its values are popped: a value to push; the output's length; or items to pass over, up to the level's `%;` and
 // with it, or to its next `%e` where the flag is set and there is one.
@@ -76,62 +80,6 @@ pub fn class_of(item: Item) -> Class
     }
 }
 
-// How far a letter stands behind the first one.
-fn letter_place(c: u8, first: u8) -> usize
-    ensures { λ r. ⌜ r ≡ c - first ⌝ }
-{
-    if c < first { 0 } else { (c - first) as usize }
-}
-
-// The value at a place of a list, or 0 past its end.
-fn value_at(values: &[i32], k: usize) -> i32
-    ensures { λ r. ⌜ r ≡ getD (now (values .entry)) k (pos 0) ⌝ }
-{
-    if k < values.len() { values[k] } else { 0 }
-}
-
-// Sets the value at a place, if the list has it.
-fn set_value(values: &mut [i32], k: usize, v: i32)
-    ensures { λ _. ⌜ now (values .exit) ≡ set (now (values .entry)) k v ⌝ }
-{
-    if k < values.len() {
-        values[k] = v;
-    }
-}
-
-// `%g`
-fn load(locals: &[i32; 26], lasting: &[i32; 26], c: u8) -> i32
-    ensures { λ r. ⌜ ((stack : List Value) (arguments : List ℤ) → r ≡ loaded (machine stack arguments (now (locals .entry)) (now (lasting .entry))) c) ⌝ }
-{
-    if c <= b'Z' {
-        value_at(lasting, letter_place(c, b'A'))
-    } else {
-        value_at(locals, letter_place(c, b'a'))
-    }
-}
-
-// `%P`
-fn store(locals: &mut [i32; 26], lasting: &mut [i32; 26], c: u8, v: i32)
-    ensures { λ _. ⌜ ((stack : List Value) (arguments : List ℤ) → machine stack arguments (now (locals .exit)) (now (lasting .exit)) ≡ stored (machine stack arguments (now (locals .entry)) (now (lasting .entry))) c v) ⌝ }
-{
-    if c <= b'Z' {
-        set_value(lasting, letter_place(c, b'A'), v);
-    } else {
-        set_value(locals, letter_place(c, b'a'), v);
-    }
-}
-
-// `%i`
-fn increment(arguments: &mut [i32; 9])
-    requires { ⌜ length (now arguments) ≡ 9 ⌝ }
-    ensures { λ _. ⌜ now (arguments .exit) ≡ incremented (now (arguments .entry)) ⌝ }
-{
-    let a = signed::wrapping_add(arguments[0], 1);
-    let b = signed::wrapping_add(arguments[1], 1);
-    arguments[0] = a;
-    arguments[1] = b;
-}
-
 // Takes an item whose values are popped: a is the left operand, b the last value pushed.
 pub fn take(
     item: Item,
@@ -157,7 +105,7 @@ pub fn take(
             Step::Go(written + count)
         }
         Item::Character => {
-            print::put_byte(out, written, values::character(b));
+            print::put_byte(out, written, operators::character(b));
             Step::Go(written + 1)
         }
         Item::Constant(v) => Step::Push(v),
@@ -166,15 +114,15 @@ pub fn take(
             Step::Go(written)
         }
         Item::Load(c) => Step::Push(load(locals, lasting, c)),
-        Item::Binary(o) => Step::Push(values::applied(o, a, b)),
-        Item::Not => Step::Push(values::negated(b)),
-        Item::Invert => Step::Push(values::inverted(b)),
+        Item::Binary(o) => Step::Push(operators::applied(o, a, b)),
+        Item::Not => Step::Push(operators::negated(b)),
+        Item::Invert => Step::Push(operators::inverted(b)),
         Item::Increment => {
             increment(arguments);
             Step::Go(written)
         }
         Item::If => Step::Go(written),
-        Item::Then => if values::is_zero(b) {
+        Item::Then => if operators::is_zero(b) {
             Step::Pass(true)
         } else {
             Step::Go(written)

@@ -3,26 +3,24 @@
 ghost use mathlib.Core.Path.{_≡_};
 ghost use mathlib.Core.List.{_++_};
 ghost use lib.ListN.{length};
-ghost use Rattle.entry.specs.Answer.{mapAnswer, bufferAfter};
+ghost use Rattle.base.specs.Answer.{mapAnswer, bufferAfter};
 ghost use Rattle.entry.specs.Writing.{encode, entryOf};
 ghost use Rattle.entry.specs.Merging.{merging};
 ghost use Rattle.entry.specs.Says.{saysMerged};
-ghost use Rattle.states.specs.Opened.{OpenedAs};
-ghost use Rattle.writer.specs.Handed.{handed};
-ghost use Rattle.merge.specs.Filled.{BothOpened, Measured, StringsGiven, Ready};
-ghost use Rattle.merge.specs.Answers.{Fitted, Merges};
-use caps::BOOLEANS_MOST;
-use caps::Edition;
-use caps::NUMBERS_MOST;
-use caps::STRINGS_MOST;
+ghost use Rattle.opened_file.specs.Opened.{OpenedAs};
+ghost use Rattle.entry.specs.Handed.{handed};
+ghost use Rattle.merge_states.specs.Filled.{BothOpened, Measured, StringsGiven, Ready};
+ghost use Rattle.merge_states.specs.Answers.{Fitted, Merges};
+use edition::BOOLEANS_MOST;
+use edition::Edition;
+use edition::NUMBERS_MOST;
+use edition::STRINGS_MOST;
 use entry::FILE_MOST;
 use entry::FileRefusal;
 use entry::Judged;
 use entry::Merged;
 use entry::Tables;
-use fill::TableSize;
-
-mod fill;
+use merge_states::TableSize;
 
 // A string's start and length before it is filled, which nobody reads. Not 0, so that vector instructions store it and no memset.
 const UNFILLED: usize = 1;
@@ -45,15 +43,15 @@ fn write_fitting(
     requires { ⌜ Ready edition (handed (now names) (now «boolean_kinds») (now «number_kinds») (now «number_values») (now «string_kinds») (now «string_starts») (now «string_lengths») (now first ++ now second)) (now first) (now second) table ⌝ }
     ensures { λ r. ⌜ Fitted (encode (entryOf edition (handed (now (names .entry)) (now («boolean_kinds» .entry)) (now («number_kinds» .entry)) (now («number_values» .entry)) (now («string_kinds» .entry)) (now («string_starts» .entry)) (now («string_lengths» .entry)) (now (first .entry) ++ now (second .entry))))) (now (buffer .entry)) (now (buffer .exit)) (saysMerged r) ⌝ }
 {
-    let s = writer::file::sizes_with(edition, names, table);
-    let size = writer::file::file_size(s);
+    let s = write_file::sizes_with(edition, names, table);
+    let size = write_file::file_size(s);
     if FILE_MOST < size {
         return Merged::Size;
     }
     if buffer.len() < size {
         return Merged::Room(size);
     }
-    writer::file::write_sure(
+    write_file::write_sure(
         buffer,
         s,
         edition,
@@ -89,8 +87,8 @@ fn merge_filled(
     let mut boolean_kinds = [0u8; BOOLEANS_MOST];
     let mut number_kinds = [0u8; NUMBERS_MOST];
     let mut number_values = [0u32; NUMBERS_MOST];
-    fill::fill_booleans(&mut boolean_kinds, first, t, second, u, edition);
-    fill::fill_numbers(
+    merge_states::fill_booleans(&mut boolean_kinds, first, t, second, u, edition);
+    merge_states::fill_numbers(
         &mut number_kinds,
         &mut number_values,
         first,
@@ -99,7 +97,7 @@ fn merge_filled(
         u,
         edition,
     );
-    let part = states::opened::names_opened(first, edition, t);
+    let part = opened_file::names_opened(first, edition, t);
     let start = part.start;
     let end = part.start + part.length;
     write_fitting(
@@ -133,7 +131,7 @@ fn merge_opened(
     let mut kinds = [0u8; STRINGS_MOST];
     let mut starts = [UNFILLED; STRINGS_MOST];
     let mut lengths = [UNFILLED; STRINGS_MOST];
-    match fill::fill_strings(
+    match merge_states::fill_strings(
         &mut kinds,
         &mut starts,
         &mut lengths,
@@ -174,7 +172,7 @@ fn merge_over(first: &[u8], t: Tables, second: &[u8], edition: Edition, buffer: 
 pub fn merge(first: &[u8], second: &[u8], edition: Edition, buffer: &mut [u8]) -> Merged
     ensures { λ r. ⌜ (saysMerged r ≡ mapAnswer length (merging edition (now (first .entry)) (now (second .entry)) (length (now (buffer .entry))))) × (now (buffer .exit) ≡ bufferAfter (now (buffer .entry)) (merging edition (now (first .entry)) (now (second .entry)) (length (now (buffer .entry))))) ⌝ }
 {
-    if !caps::edition_ok(edition) {
+    if !edition::edition_ok(edition) {
         return Merged::Refused(FileRefusal::Counts);
     }
     match read::judge(first) {

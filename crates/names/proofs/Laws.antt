@@ -7,12 +7,12 @@ use lib.Dec.{ltb}
 use lib.ListN.{length, getD}
 use borrow.Author.Tests.{lt-ltb, le-ltb}
 use Rattle.base.specs.If.{if_then_else_, below-or}
-use Rattle.caps.specs.declared.Place.{Place}
-use Rattle.caps.specs.declared.Kind.the-variants as Kinds
-use Rattle.entry.specs.Answer.{Answer, refused, gives}
+use Rattle.edition.specs.declared.Place.{Place}
+use Rattle.edition.specs.declared.Kind.the-variants as Kinds
+use Rattle.base.specs.Answer.{Answer, refused, gives}
 use Rattle.names.specs.Names.{booleanNames, numberNames, stringNames, allNames}
 use Rattle.names.specs.Naming.{packed, naming}
-use Rattle.names.specs.LookupLaws.{booleans-length, numbers-length, strings-length, booleans-listed, numbers-listed, strings-listed}
+use Rattle.names.proofs.LookupLaws.{booleans-length, numbers-length, strings-length, booleans-listed, numbers-listed, strings-listed}
 
 -- a list that stands in all names from first on
 listed : (names all : List (List ℕ)) (first count : ℕ) → length names ≡ count → ((i : ℕ) → i < count → getD all (first + i) [] ≡ getD names i []) → (p : Place)

@@ -2,5 +2,3 @@ pub mod Names
 pub mod Naming
 pub mod Lookup
 pub mod Searching
-pub mod Places
-pub mod LookupLaws

@@ -7,8 +7,8 @@ use lib.Dec.{eqb, ltb}
 use lib.ListN.{length, getD, take}
 use Rattle.base.specs.If.{if_then_else_}
 use Rattle.base.specs.Scan.{scan}
-use Rattle.caps.specs.declared.Edition.{Edition}
-use Rattle.caps.specs.Edition.{place}
+use Rattle.edition.specs.declared.Edition.{Edition}
+use Rattle.edition.specs.Edition.{place}
 use Rattle.names.specs.declared.Found.{Found}
 use Rattle.names.specs.declared.Found.the-variants as F
 use Rattle.names.specs.Names.{booleanNames, numberNames, stringNames}

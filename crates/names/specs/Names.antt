@@ -8,9 +8,9 @@ use mathlib.Core.List.{List, [], _∷_, _++_}
 use lib.Dec.{eqb}
 use lib.ListN.{length, getD}
 use Rattle.base.specs.If.{if_then_else_}
-use Rattle.caps.specs.declared.Edition.{Edition}
-use Rattle.caps.specs.declared.Kind.{Kind}
-use Rattle.caps.specs.declared.Kind.the-variants as Kinds
+use Rattle.edition.specs.declared.Edition.{Edition}
+use Rattle.edition.specs.declared.Kind.{Kind}
+use Rattle.edition.specs.declared.Kind.the-variants as Kinds
 
 -- a quoted text as bytes
 unfoldable pub ascii : String → List ℕ

@@ -7,10 +7,10 @@ use lib.Dec.{eqb}
 use lib.ListN.{length, getD, List·getD-map}
 use Rattle.base.specs.If.{if_then_else_}
 use Rattle.word.specs.Word.{word, bytes}
-use Rattle.caps.specs.declared.Kind.{Kind}
-use Rattle.caps.specs.declared.Place.{Place}
-use Rattle.caps.specs.Edition.{knows}
-use Rattle.entry.specs.Answer.{Answer, refused, gives}
+use Rattle.edition.specs.declared.Kind.{Kind}
+use Rattle.edition.specs.declared.Place.{Place}
+use Rattle.edition.specs.Edition.{knows}
+use Rattle.base.specs.Answer.{Answer, refused, gives}
 use Rattle.names.specs.declared.Name.{Name}
 use Rattle.names.specs.declared.Name.the-variants as N
 use Rattle.names.specs.Names.{ascii, parted, named, booleanNames, numberNames, stringNames, namesOf, allNames}

@@ -6,13 +6,12 @@ ghost use Prim.Native.Nat.{_+_, _<_, _≤_};
 ghost use lib.Dec.{ltb};
 ghost use lib.ListN.{getD};
 ghost use Rattle.base.specs.If.{if_then_else_};
-ghost use Rattle.entry.specs.Answer.{refused, gives};
+ghost use Rattle.base.specs.Answer.{refused, gives};
 ghost use Rattle.names.specs.Names.{allNames};
 ghost use Rattle.names.specs.Naming.{packed, packedNames, naming, saysName};
-use caps::Kind;
-use caps::Place;
-
-pub mod find;
+use edition::Edition;
+use edition::Kind;
+use edition::Place;
 
 // How many names each list of the first edition has.
 pub const BOOLEANS: usize = 21;
@@ -240,3 +239,10 @@ pub fn name_of(kind: Kind, place: Place) -> Name
         Kind::String => name_in(BOOLEANS + NUMBERS, STRINGS, place),
     }
 }
+
+// The first edition.
+pub const FIRST_EDITION: Edition = Edition {
+    booleans: BOOLEANS,
+    numbers: NUMBERS,
+    strings: STRINGS,
+};

@@ -1,4 +1,3 @@
 pub mod Numeral
-pub mod NumeralLaws
-pub mod DigitLaws
-pub mod EmitLaws
+pub mod Bounds
+pub mod Emit

@@ -6,9 +6,9 @@ ghost use mathlib.Core.List.{[], _∷_};
 ghost use Prim.Native.Nat.{ℕ, _+_, _-_, _≤_, _<_};
 ghost use lib.ListN.{length, replicate};
 ghost use Rattle.base.specs.Overwrite.{putAt};
-ghost use Rattle.expansion.specs.Limits.{printedMost, outputMost};
+ghost use Rattle.print.specs.Bounds.{printedMost, outputMost};
 ghost use Rattle.expansion.specs.Print.{digitByte, digits, printed};
-ghost use Rattle.expansion.specs.Emit.{emitted};
+ghost use Rattle.print.specs.Emit.{emitted};
 ghost use Rattle.print.specs.Numeral.{minusSign, front, NumeralOf, Plain};
 use expansion::Base;
 

@@ -2,16 +2,15 @@
 // edition knows. Proved: `judge` and `open` answer every slice of bytes and every edition as `reading` and `opening` of
 // entry/specs say. Assumed: nothing.
 ghost use mathlib.Core.Path.{_≡_};
-ghost use mathlib.Core.Bool.{true};
 ghost use Prim.Native.Nat.{_+_, _*_, _-_, _<_, _≤_};
 ghost use lib.ListN.{length};
 ghost use Rattle.word.specs.Word.{word};
-ghost use Rattle.entry.specs.Layout.{sizesOf, sizeOf, tablesOf, beyondOf};
+ghost use Rattle.entry.specs.Layout.{sizesOf, tablesOf, beyondOf};
 ghost use Rattle.entry.specs.Reading.{okCounts, reading};
 ghost use Rattle.entry.specs.Asking.{opening};
 ghost use Rattle.entry.specs.Says.{saysJudged, saysOpened};
-ghost use Rattle.read.specs.Framed.{Shorts, Framed};
-use caps::Edition;
+ghost use Rattle.file_tables.specs.Framed.{Shorts, Framed};
+use edition::Edition;
 use entry::Beyond;
 use entry::FILE_MOST;
 use entry::FileRefusal;
@@ -24,8 +23,6 @@ use entry::Opened;
 use entry::SHORT_MOST;
 use entry::Sizes;
 use entry::Tables;
-
-mod tables;
 
 // The header's sizes.
 fn sizes(file: &[u8]) -> Sizes
@@ -92,16 +89,16 @@ fn judge_tables(file: &[u8], s: Sizes, t: Tables) -> Judged
     requires { ⌜ Framed (now file) s t ⌝ }
     ensures { λ r. ⌜ saysJudged r ≡ reading (now (file .entry)) ⌝ }
 {
-    if !tables::names_ok(file, s, t) {
+    if !file_tables::names_ok(file, s, t) {
         return Judged::Refused(FileRefusal::Names);
     }
-    if !tables::booleans_ok(file, s, t) {
+    if !file_tables::booleans_ok(file, s, t) {
         return Judged::Refused(FileRefusal::Boolean);
     }
-    if !tables::numbers_ok(file, s, t) {
+    if !file_tables::numbers_ok(file, s, t) {
         return Judged::Refused(FileRefusal::Number);
     }
-    if !tables::strings_ok(file, s, t) {
+    if !file_tables::strings_ok(file, s, t) {
         return Judged::Refused(FileRefusal::Slot);
     }
     Judged::Accepted(s)
@@ -159,7 +156,7 @@ fn beyond(e: Edition, s: Sizes) -> Beyond
 pub fn open(file: &[u8], edition: Edition) -> Opened
     ensures { λ r. ⌜ saysOpened r ≡ opening edition (now (file .entry)) ⌝ }
 {
-    if !caps::edition_ok(edition) {
+    if !edition::edition_ok(edition) {
         return Opened::Refused(FileRefusal::Counts);
     }
     match judge(file) {

@@ -6,8 +6,8 @@ ghost use lib.ListN.{length};
 ghost use Rattle.entry.specs.Asking.{askingNames, askingBoolean, askingNumber, askingString, partGiven, namesGiven};
 ghost use Rattle.entry.specs.Says.{saysNames, saysBoolean, saysNumber, saysString};
 ghost use Rattle.states.specs.Held.{IsPart};
-use caps::Edition;
-use caps::Place;
+use edition::Edition;
+use edition::Place;
 use entry::BooleanState;
 use entry::Names;
 use entry::NumberState;
@@ -15,14 +15,12 @@ use entry::Opened;
 use entry::Part;
 use entry::StringState;
 
-pub mod opened;
-
 // The file's names, without their NUL.
 pub fn names(file: &[u8], edition: Edition) -> Names
     ensures { λ r. ⌜ saysNames r ≡ askingNames edition (now (file .entry)) ⌝ }
 {
     match read::open(file, edition) {
-        Opened::Entry(t, _) => Names::At(opened::names_opened(file, edition, t)),
+        Opened::Entry(t, _) => Names::At(opened_file::names_opened(file, edition, t)),
         Opened::Refused(_) => Names::Refused,
     }
 }
@@ -32,7 +30,7 @@ pub fn boolean(file: &[u8], edition: Edition, place: Place) -> BooleanState
     ensures { λ r. ⌜ saysBoolean r ≡ askingBoolean edition (now (file .entry)) place ⌝ }
 {
     let o = read::open(file, edition);
-    opened::boolean_if_opened(file, edition, o, place)
+    opened_file::boolean_if_opened(file, edition, o, place)
 }
 
 // The state of the number at a place.
@@ -40,7 +38,7 @@ pub fn number(file: &[u8], edition: Edition, place: Place) -> NumberState
     ensures { λ r. ⌜ saysNumber r ≡ askingNumber edition (now (file .entry)) place ⌝ }
 {
     let o = read::open(file, edition);
-    opened::number_if_opened(file, edition, o, place)
+    opened_file::number_if_opened(file, edition, o, place)
 }
 
 // The state of the string at a place: where its content stands in the file.
@@ -48,7 +46,7 @@ pub fn string(file: &[u8], edition: Edition, place: Place) -> StringState
     ensures { λ r. ⌜ saysString r ≡ askingString edition (now (file .entry)) place ⌝ }
 {
     let o = read::open(file, edition);
-    opened::string_if_opened(file, edition, o, place)
+    opened_file::string_if_opened(file, edition, o, place)
 }
 
 // A part of a file that lies in it.

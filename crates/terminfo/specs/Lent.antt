@@ -5,10 +5,10 @@ use mathlib.Core.List.{List, []}
 use Prim.Native.Nat.{ℕ}
 use lib.IntN.{ℤ, pos}
 use lib.ListN.{replicate}
-use Rattle.caps.specs.declared.Edition.{Edition}
-use Rattle.caps.specs.declared.Place.{Place}
+use Rattle.edition.specs.declared.Edition.{Edition}
+use Rattle.edition.specs.declared.Place.{Place}
 use Rattle.base.specs.If.{if_then_else_}
-use Rattle.entry.specs.Answer.{Answer, refused, isGiven, mapAnswer}
+use Rattle.base.specs.Answer.{Answer, refused, isGiven, mapAnswer}
 use Rattle.entry.specs.Reading.{bytesOf}
 use Rattle.entry.specs.Asking.{askingString, partGiven}
 use Rattle.expansion.specs.declared.Expansion.{Expansion}

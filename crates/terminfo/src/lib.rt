@@ -7,30 +7,20 @@ ghost use Rattle.entry.specs.Asking.{askingString, partGiven, namesGiven};
 ghost use Rattle.entry.specs.Says.{saysNames, saysBoolean, saysNumber, saysString};
 ghost use Rattle.states.specs.Held.{IsPart};
 ghost use Rattle.expansion.specs.Expanding.{expanding};
-ghost use Rattle.expand.specs.Answers.{LentAs};
-ghost use Rattle.terminfo.specs.Entries.{entryOf, entryRefusal, entryNames, entryBoolean, entryNumber, entryString, entryBeyond, saysBeyond};
+ghost use Rattle.expand_output.specs.Answers.{LentAs};
+ghost use Rattle.terminfo.specs.Entries.{entryOf};
+ghost use Rattle.entry_numbers.specs.Entries.{entryRefusal, entryNames, entryBoolean, entryNumber, entryString, entryBeyond, saysBeyond};
 ghost use Rattle.terminfo.specs.Lent.{zeroLasting, expandingGiven, expandingAt, WrittenAs};
-use caps::Edition;
-use caps::Place;
-use entry::Beyond;
+use edition::Edition;
+use edition::Place;
 use entry::BooleanState;
 use entry::Names;
 use entry::NumberState;
 use entry::StringState;
-use entry::Tables;
+use entry_numbers::BeyondEdition;
+use entry_numbers::EntryNumbers;
 use expansion::Expansion;
 use expansion::Lasting;
-
-mod slices;
-
-// What opening gave: the edition, the tables, the slots beyond the edition. On a refusal all are 0 but the refusal's number, which is 0
-// otherwise.
-pub struct EntryNumbers {
-    edition: Edition,
-    tables: Tables,
-    beyond: Beyond,
-    refusal: usize,
-}
 
 // An entry: the caller's bytes and what opening gave for them.
 pub struct Entry<'a> {
@@ -38,18 +28,11 @@ pub struct Entry<'a> {
     numbers: EntryNumbers,
 }
 
-// How many slots lie beyond the edition.
-pub enum BeyondEdition {
-    Slots(Beyond),
-    // 17: opening would not give the entry
-    Refused,
-}
-
 // Opens a file in an edition.
 pub fn open<'a>(file: &'a [u8], edition: Edition) -> Entry<'a>
     ensures { λ r. ⌜ r ≡ entryOf (file .entry) edition ⌝ }
 {
-    let numbers = slices::numbers_in(file, edition);
+    let numbers = entry_numbers::numbers_in(file, edition);
     Entry { file, numbers }
 }
 
@@ -57,42 +40,42 @@ pub fn open<'a>(file: &'a [u8], edition: Edition) -> Entry<'a>
 pub fn refusal<'a>(e: Entry<'a>) -> usize
     ensures { λ r. ⌜ r ≡ entryRefusal (now (e .entry .file)) (e .entry .numbers) ⌝ }
 {
-    slices::refusal_in(e.file, e.numbers)
+    entry_numbers::refusal_in(e.file, e.numbers)
 }
 
 // The names, without their NUL.
 pub fn names<'a>(e: Entry<'a>) -> Names
     ensures { λ r. ⌜ saysNames r ≡ entryNames (now (e .entry .file)) (e .entry .numbers) ⌝ }
 {
-    slices::names_in(e.file, e.numbers)
+    entry_numbers::names_in(e.file, e.numbers)
 }
 
 // The names as that part of the caller's bytes; the empty part at the file's start where they are refused (17). Names are never empty.
 pub fn names_part<'a>(e: Entry<'a>) -> &'a [u8]
     ensures { λ r. ⌜ IsPart (e .entry .file) r (namesGiven (entryNames (now (e .entry .file)) (e .entry .numbers))) ⌝ }
 {
-    slices::names_part_in(e.file, e.numbers)
+    entry_numbers::names_part_in(e.file, e.numbers)
 }
 
 // The state of the boolean at a place.
 pub fn boolean<'a>(e: Entry<'a>, place: Place) -> BooleanState
     ensures { λ r. ⌜ saysBoolean r ≡ entryBoolean (now (e .entry .file)) (e .entry .numbers) place ⌝ }
 {
-    slices::boolean_in(e.file, e.numbers, place)
+    entry_numbers::boolean_in(e.file, e.numbers, place)
 }
 
 // The state of the number at a place.
 pub fn number<'a>(e: Entry<'a>, place: Place) -> NumberState
     ensures { λ r. ⌜ saysNumber r ≡ entryNumber (now (e .entry .file)) (e .entry .numbers) place ⌝ }
 {
-    slices::number_in(e.file, e.numbers, place)
+    entry_numbers::number_in(e.file, e.numbers, place)
 }
 
 // The state of the string at a place: where its content stands in the file.
 pub fn string<'a>(e: Entry<'a>, place: Place) -> StringState
     ensures { λ r. ⌜ saysString r ≡ entryString (now (e .entry .file)) (e .entry .numbers) place ⌝ }
 {
-    slices::string_in(e.file, e.numbers, place)
+    entry_numbers::string_in(e.file, e.numbers, place)
 }
 
 // The content of the string at a place as that part of the caller's bytes; the empty part at the file's start where no content is given.
@@ -100,14 +83,14 @@ pub fn string<'a>(e: Entry<'a>, place: Place) -> StringState
 pub fn string_part<'a>(e: Entry<'a>, place: Place) -> &'a [u8]
     ensures { λ r. ⌜ IsPart (e .entry .file) r (partGiven (entryString (now (e .entry .file)) (e .entry .numbers) place)) ⌝ }
 {
-    slices::string_part_in(e.file, e.numbers, place)
+    entry_numbers::string_part_in(e.file, e.numbers, place)
 }
 
 // How many slots of the file lie beyond the edition, in each list.
 pub fn beyond<'a>(e: Entry<'a>) -> BeyondEdition
     ensures { λ r. ⌜ saysBeyond r ≡ entryBeyond (now (e .entry .file)) (e .entry .numbers) ⌝ }
 {
-    slices::beyond_in(e.file, e.numbers)
+    entry_numbers::beyond_in(e.file, e.numbers)
 }
 
 // Opens a file and gives the content of the string at a place. Its parameters are plain: a caller's proof is made by the check.

@@ -12,10 +12,10 @@ use Rattle.base.specs.If.{if_then_else_}
 use Rattle.base.specs.Scan.{every}
 use Rattle.base.specs.Tabulate.{tabulate}
 use Rattle.word.specs.Word.{word}
-use Rattle.caps.specs.declared.Edition.{Edition}
-use Rattle.caps.specs.declared.Kind.the-variants as Kinds
-use Rattle.caps.specs.declared.Place.{Place}
-use Rattle.caps.specs.Edition.{okEdition, place}
+use Rattle.edition.specs.declared.Edition.{Edition}
+use Rattle.edition.specs.declared.Kind.the-variants as Kinds
+use Rattle.edition.specs.declared.Place.{Place}
+use Rattle.edition.specs.Edition.{okEdition, place}
 use Rattle.entry.specs.declared.Names.{Names}
 use Rattle.entry.specs.declared.Names.the-variants as M
 use Rattle.entry.specs.declared.StringState.{StringState}
@@ -27,7 +27,7 @@ use Rattle.entry.specs.declared.Merged.the-variants as G
 use Rattle.entry.specs.declared.Sizes.{Sizes}
 use Rattle.entry.specs.Limits.{magic, headerSize, fileMost}
 use Rattle.entry.specs.State.{present}
-use Rattle.entry.specs.Answer.{Answer, refused, gives, mapAnswer, andThen, isGiven}
+use Rattle.base.specs.Answer.{Answer, refused, gives, mapAnswer, andThen, isGiven}
 use Rattle.entry.specs.Layout.{sizesOf, sizeOf}
 use Rattle.entry.specs.Reading.{okCounts, okNames, okBooleans, okPad, okNumbers, okStrings, reading}
 use Rattle.entry.specs.Asking.{Opening, opening, asking, askingNames, askingBoolean, askingNumber, askingString}
@@ -37,7 +37,7 @@ use Rattle.entry.specs.Says.{saysNames, saysString, saysWritten, saysMerged}
 use Rattle.entry_laws.specs.Demands.{written-only-if}
 use Rattle.entry_laws.specs.MergeDemands.{merged-only-if}
 use Rattle.names.specs.Naming.{naming}
-use Rattle.states.proofs.Laws.{asking-given, opened-accepted, names-inside, string-inside}
+use Rattle.opened_file.proofs.Laws.{asking-given, opened-accepted, names-inside, string-inside}
 use Rattle.c_numbers.specs.Numbers.{numbered, none, openingArray, booleanCode, numberCode, stringCode, NamesWithin, StringWithin, WrittenWithin, MergedWithin}
 use Rattle.terminfo_c.specs.Calls.{arrayAfter, askedCode, asking8, namingBy}
 

@@ -8,10 +8,10 @@ use lib.Dec.{eqb}
 use lib.ListN.{length, getD}
 use Rattle.base.specs.If.{if_then_else_}
 use Rattle.base.specs.Tabulate.{tabulate}
-use Rattle.caps.specs.declared.Edition.{Edition}
-use Rattle.caps.specs.declared.Kind.the-variants as Kinds
-use Rattle.caps.specs.Edition.{place}
-use Rattle.entry.specs.Answer.{Answer, refused, gives, mapAnswer, isGiven, bufferAfter}
+use Rattle.edition.specs.declared.Edition.{Edition}
+use Rattle.edition.specs.declared.Kind.the-variants as Kinds
+use Rattle.edition.specs.Edition.{place}
+use Rattle.base.specs.Answer.{Answer, refused, gives, mapAnswer, isGiven, bufferAfter}
 use Rattle.entry.specs.Asking.{opening, askingBoolean, askingNumber, askingString}
 use Rattle.entry.specs.Writing.{Handed, writing}
 use Rattle.entry.specs.Merging.{merging}

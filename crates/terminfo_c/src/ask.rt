@@ -5,8 +5,8 @@ ghost use Rattle.base.specs.Tabulate.{tabulate};
 ghost use Rattle.entry.specs.Asking.{opening};
 ghost use Rattle.entry.specs.Says.{saysOpened};
 ghost use Rattle.terminfo_c.specs.Calls.{askedCode};
-use caps::Edition;
-use caps::Place;
+use edition::Edition;
+use edition::Place;
 use entry::Opened;
 
 // The state at a place of the list of a kind's number, by what opening answered.
@@ -15,18 +15,13 @@ fn asked_number(file: &[u8], e: Edition, o: Opened, kind: u8, place: usize) -> u
     ensures { λ r. ⌜ r ≡ askedCode e (now (file .entry)) kind place ⌝ }
 {
     if kind == 0 {
-        return c_numbers::boolean_number(states::opened::boolean_if_opened(
-            file,
-            e,
-            o,
-            Place(place),
-        ));
+        return c_numbers::boolean_number(opened_file::boolean_if_opened(file, e, o, Place(place)));
     }
     if kind == 1 {
-        return c_numbers::number_number(states::opened::number_if_opened(file, e, o, Place(place)));
+        return c_numbers::number_number(opened_file::number_if_opened(file, e, o, Place(place)));
     }
     if kind == 2 {
-        return c_numbers::string_number(states::opened::string_if_opened(file, e, o, Place(place)));
+        return c_numbers::string_number(opened_file::string_if_opened(file, e, o, Place(place)));
     }
     17 * c_numbers::TOP
 }

@@ -3,17 +3,16 @@
 // Assumed: nothing.
 ghost use mathlib.Core.Path.{_≡_};
 ghost use lib.ListN.{length};
-ghost use Rattle.entry.specs.Answer.{mapAnswer};
+ghost use Rattle.base.specs.Answer.{mapAnswer};
 ghost use Rattle.entry.specs.Asking.{opening, askingNames};
-ghost use Rattle.writer.specs.Handed.{handed};
+ghost use Rattle.entry.specs.Handed.{handed};
 ghost use Rattle.expansion.specs.Expanding.{expanding};
 ghost use Rattle.c_numbers.specs.Numbers.{numbered, none, partCode, openingArray};
 ghost use Rattle.terminfo_c.specs.Calls.{edition, arrayAfter, booleanNumber, numberNumber, stringNumber, asking8, namingBy, WrittenNumber, MergedNumber, CompiledNumber, ExpandedNumber};
-use caps::Edition;
-use caps::Kind;
-use caps::Place;
+use edition::Edition;
+use edition::Kind;
+use edition::Place;
 use entry::Opened;
-use names::Name;
 
 mod ask;
 
@@ -180,7 +179,7 @@ pub extern "C" fn terminfo_write(
 ) -> u64
     ensures { λ r. ⌜ WrittenNumber (edition booleans numbers strings) (handed (now (names .entry)) (now («boolean_kinds» .entry)) (now («number_kinds» .entry)) (now («number_values» .entry)) (now («string_kinds» .entry)) (now («string_starts» .entry)) (now («string_lengths» .entry)) (now (lent .entry))) (now (buffer .entry)) (now (buffer .exit)) r ⌝ }
 {
-    let w = writer::write(
+    let w = write::write(
         Edition {
             booleans,
             numbers,

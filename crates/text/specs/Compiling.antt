@@ -6,9 +6,9 @@ use Prim.Native.Nat.{ℕ}
 use lib.Dec.{leb}
 use lib.ListN.{length}
 use Rattle.base.specs.If.{if_then_else_}
-use Rattle.caps.specs.declared.Edition.{Edition}
+use Rattle.edition.specs.declared.Edition.{Edition}
 use Rattle.entry.specs.Limits.{fileMost, givenNamesMost}
-use Rattle.entry.specs.Answer.{Answer, refused, gives}
+use Rattle.base.specs.Answer.{Answer, refused, gives}
 use Rattle.entry.specs.Reading.{Entry}
 use Rattle.entry.specs.Writing.{encode}
 use Rattle.text.specs.declared.TextRefusal.{TextRefusal}

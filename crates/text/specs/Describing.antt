@@ -7,11 +7,11 @@ use lib.Dec.{leb}
 use lib.ListN.{length, getD, set, take, drop, replicate}
 use Rattle.base.specs.If.{if_then_else_}
 use Rattle.base.specs.Loop.{Turn, go, stop, loop}
-use Rattle.caps.specs.declared.Edition.{Edition}
-use Rattle.caps.specs.declared.Place.{Place}
+use Rattle.edition.specs.declared.Edition.{Edition}
+use Rattle.edition.specs.declared.Place.{Place}
 use Rattle.entry.specs.Limits.{contentMost}
 use Rattle.entry.specs.State.{State, absent, cancelled, present}
-use Rattle.entry.specs.Answer.{Answer, refused, gives, mapAnswer}
+use Rattle.base.specs.Answer.{Answer, refused, gives, mapAnswer}
 use Rattle.entry.specs.Reading.{Entry}
 use Rattle.entry.specs.Merging.{over}
 use Rattle.names.specs.declared.Found.{Found}

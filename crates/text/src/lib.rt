@@ -1,10 +1,12 @@
 // Source text's numbers and types: what the parts of the compiler answer. The meaning of all of them is in specs/.
-use caps::Place;
+use edition::Place;
 
 // A text's most bytes.
 pub const TEXT_MOST: usize = 16384;
+
 // An alias's most bytes.
 pub const ALIAS_MOST: usize = 14;
+
 // A number's most digits, and its most.
 pub const DIGITS_MOST: usize = 99;
 

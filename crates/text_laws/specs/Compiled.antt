@@ -9,10 +9,10 @@ use lib.Dec.{leb}
 use lib.ListN.{length}
 use borrow.Author.Tests.{leb-true, le-leb}
 use Rattle.base.specs.If.{if_then_else_}
-use Rattle.caps.specs.declared.Edition.{Edition}
-use Rattle.caps.specs.Edition.{okEdition}
+use Rattle.edition.specs.declared.Edition.{Edition}
+use Rattle.edition.specs.Edition.{okEdition}
 use Rattle.entry.specs.Limits.{fileMost, givenNamesMost}
-use Rattle.entry.specs.Answer.{Answer, refused, gives, isGiven}
+use Rattle.base.specs.Answer.{Answer, refused, gives, isGiven}
 use Rattle.entry.specs.Reading.{Entry, view}
 use Rattle.entry.specs.Asking.{opening}
 use Rattle.entry.specs.Writing.{encode}

@@ -10,12 +10,12 @@ use lib.ListN.{length, getD, set, take, drop, replicate, length-set, length-repl
 use Rattle.base.specs.If.{if_then_else_, true-false}
 use Rattle.base.specs.Loop.{Turn, go, stop, loop, loop-go, loop-stop, loop-ind}
 use Rattle.base.specs.Tabulate.{Each}
-use Rattle.caps.specs.declared.Edition.{Edition}
-use Rattle.caps.specs.declared.Place.{Place}
-use Rattle.caps.specs.Edition.{okEdition}
+use Rattle.edition.specs.declared.Edition.{Edition}
+use Rattle.edition.specs.declared.Place.{Place}
+use Rattle.edition.specs.Edition.{okEdition}
 use Rattle.entry.specs.Limits.{contentMost}
 use Rattle.entry.specs.State.{State, absent, cancelled, present}
-use Rattle.entry.specs.Answer.{Answer, refused, gives, mapAnswer}
+use Rattle.base.specs.Answer.{Answer, refused, gives, mapAnswer}
 use Rattle.entry.specs.Reading.{Entry, editionOf}
 use Rattle.entry.specs.Merging.{over}
 use Rattle.entry_laws.specs.Sound.{NoNul, NumberFits, ContentFree}

@@ -10,10 +10,10 @@ use lib.ListN.{length, getD, take, drop}
 use borrow.Author.Tests.{leb-true}
 use Rattle.base.specs.If.{if_then_else_}
 use Rattle.base.specs.Loop.{Turn, go, stop, loop-ind}
-use Rattle.caps.specs.declared.Edition.{Edition}
+use Rattle.edition.specs.declared.Edition.{Edition}
 use Rattle.entry.specs.Limits.{fileMost, givenNamesMost, contentMost}
 use Rattle.entry.specs.State.{present}
-use Rattle.entry.specs.Answer.{Answer, refused, gives, mapAnswer}
+use Rattle.base.specs.Answer.{Answer, refused, gives, mapAnswer}
 use Rattle.entry.specs.Reading.{Entry}
 use Rattle.entry.specs.Writing.{encode}
 use Rattle.names.specs.declared.Found.{Found}

@@ -2,22 +2,14 @@
 // program ends with. Proved: each function is safe and ends, and those of `refusal` and `shown` give what specs/ and the library's definitions
 // say. Assumed: what libc and os say of C.
 ghost use Rattle.io.specs.Counts.{Counts};
-use caps::Edition;
 use entry::FILE_MOST;
 use libc::STDERR_FILENO;
 use libc::STDOUT_FILENO;
 
 pub mod input;
+pub mod output;
 pub mod refusal;
 pub mod save;
-pub mod shown;
-
-// The first edition.
-pub const FIRST: Edition = Edition {
-    booleans: names::BOOLEANS,
-    numbers: names::NUMBERS,
-    strings: names::STRINGS,
-};
 
 // The room for a compiled file: one byte more than it may have, so that a longer one is refused and never cut.
 pub const FILE_ROOM: usize = FILE_MOST + 1;

@@ -1,6 +1,6 @@
 // Refusals as people read them.
 ghost use mathlib.Core.Path.{_≡_};
-ghost use Rattle.entry.specs.Answer.{isGiven};
+ghost use Rattle.base.specs.Answer.{isGiven};
 ghost use Rattle.entry.specs.Reading.{reading};
 ghost use Rattle.entry.specs.Says.{fileNumber};
 use crate::Status;

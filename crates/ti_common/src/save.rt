@@ -1,46 +1,16 @@
 // A file comes whole: it is written beside its place and then renamed.
-ghost use mathlib.Core.Path.{_≡_};
-ghost use Prim.Native.Nat.{_+_, _≤_};
-ghost use lib.ListN.{length, take};
-ghost use Rattle.io.specs.Counts.{Counts};
-ghost use Rattle.ti_common.specs.Beside.{pathRoom, folderIn, beside};
+ghost use Prim.Native.Nat.{_≤_};
+ghost use lib.ListN.{length};
+ghost use Rattle.beside.specs.Beside.{pathRoom};
 use crate::Status;
 use crate::fail;
+use beside::name_beside;
 
 // The most bytes of a path.
 const PATH_MOST: usize = 4096;
 
 // The most bytes of a path, of `.ti-` and of a number.
 const NAME_ROOM: usize = 4120;
-
-// The length of the path up to its last slash, with it.
-fn folder(path: &[u8]) -> usize
-    ensures { λ r. ⌜ r ≡ folderIn (now (path .entry)) (length (now (path .entry))) ⌝ }
-    ensures { λ r. ⌜ Counts r (now (path .entry)) ⌝ }
-{
-    let mut i = 0;
-    let mut end = 0;
-    while i < path.len() {
-        if path[i] == b'/' {
-            end = i + 1;
-        }
-        i += 1;
-    }
-    end
-}
-
-// Puts the name of a temporary file in the path's folder at the start of name, and answers its length.
-fn name_beside(path: &[u8], number: &[u8], name: &mut [u8]) -> usize
-    requires { ⌜ length (now path) + length (now number) + 4 ≤ length (now name) ⌝ }
-    ensures { λ r. ⌜ take r (now (name .exit)) ≡ beside (now (path .entry)) (now (number .entry)) ⌝ }
-    ensures { λ r. ⌜ Counts r (now (name .exit)) ⌝ }
-{
-    let end = folder(path);
-    put::put_bytes(name, 0, &path[..end]);
-    put::put_bytes(name, end, b".ti-");
-    put::put_bytes(name, end + 4, number);
-    end + 4 + number.len()
-}
 
 // Writes all of a file, to the disk, and closes it.
 fn write_whole(fd: i32, file: &[u8]) -> bool {

@@ -4,9 +4,9 @@
 ghost use mathlib.Core.Path.{_≡_};
 ghost use Prim.Native.Nat.{_≤_};
 ghost use lib.ListN.{length};
-ghost use Rattle.entry.specs.Answer.{numberOf};
+ghost use Rattle.base.specs.Answer.{numberOf};
 ghost use Rattle.text.specs.Compiling.{saysCompiled};
-ghost use Rattle.ti_compile.specs.Taken.{textRoom};
+ghost use Rattle.positions.specs.Taken.{textRoom};
 use entry::FILE_MOST;
 use text::Compiled;
 use text::TEXT_MOST;
@@ -15,8 +15,6 @@ use ti_common::Status;
 use ti_common::complain;
 use ti_common::complain_number;
 use ti_common::refusal::refuse;
-
-mod position;
 
 // A text's most bytes and one more, so that a longer text is refused and never cut.
 const TEXT_ROOM: usize = TEXT_MOST + 1;
@@ -48,7 +46,7 @@ fn refuse_field(text: &[u8], number: usize, place: usize) -> Status
         complain(b", in the header, or there is none (byte 0)\n");
         return Status::Refused;
     }
-    let p = position::position_of(text, place);
+    let p = positions::position_of(text, place);
     complain(b", at byte ");
     complain_number(place);
     complain(b" (counted from 0), line ");

@@ -4,23 +4,21 @@
 // what `shown` of ti_common/specs says. Assumed: what libc and os say of C.
 ghost use mathlib.Core.Path.{_≡_};
 ghost use Prim.Native.Nat.{_≤_};
-ghost use Rattle.entry.specs.Answer.{numberOf};
+ghost use Rattle.base.specs.Answer.{numberOf};
 ghost use Rattle.expansion.specs.Expanding.{saysExpansion};
-use caps::Place;
+use edition::Place;
 use entry::StringState;
 use expansion::Expansion;
+use names::FIRST_EDITION;
 use names::Found;
-use number::Parsed;
+use number_words::Parsed;
+use shown::CONTENT_LEAST;
 use ti_common::FILE_ROOM;
-use ti_common::FIRST;
 use ti_common::Status;
 use ti_common::refusal::refuse;
 use ti_common::refusal::refuse_at;
 use ti_common::say;
 use ti_common::say_number;
-use ti_common::shown::CONTENT_LEAST;
-
-mod number;
 
 // Room for the output of any string: each of 1,000 items prints less than 255 bytes.
 const OUTPUT_ROOM: usize = 255000;
@@ -35,7 +33,7 @@ fn parsed_at(i: usize) -> Parsed {
     if os::errno() != 0 {
         return Parsed::Wrong;
     }
-    number::parse(&word[..n])
+    number_words::parse(&word[..n])
 }
 
 fn is_number(i: usize) -> bool {
@@ -79,7 +77,7 @@ fn numbers_from(first: usize) -> [i32; 9]
 // Writes the output.
 fn say_output(output: &[u8], steps: usize, is_verbose: bool) -> Status {
     if is_verbose {
-        let shown = ti_common::shown::say_shown(output, CONTENT_LEAST) & say(b"\n");
+        let shown = ti_common::output::say_shown(output, CONTENT_LEAST) & say(b"\n");
         return ti_common::written(shown & say_number(steps) & say(b" steps\n"));
     }
     ti_common::written(say(output))
@@ -112,7 +110,7 @@ fn expand_string(
     is_verbose: bool,
 ) -> Status {
     let mut out = [0u8; OUTPUT_ROOM];
-    let answer = terminfo::open_expand(file, FIRST, place, values, &mut out, 0);
+    let answer = terminfo::open_expand(file, FIRST_EDITION, place, values, &mut out, 0);
     let number = number_of(answer);
     match answer {
         Expansion::Done { length, steps } => {
@@ -145,7 +143,7 @@ fn expand_place(
     values: [i32; 9],
     is_verbose: bool,
 ) -> Status {
-    match states::string(file, FIRST, place) {
+    match states::string(file, FIRST_EDITION, place) {
         StringState::Present(_) => expand_string(path, file, place, values, is_verbose),
         StringState::Absent => refuse_state(path, name, b" is absent\n"),
         StringState::Cancelled => refuse_state(path, name, b" is cancelled\n"),
@@ -164,7 +162,7 @@ fn expand_named(
     if !ti_common::refusal::accept(path, file) {
         return Status::Refused;
     }
-    match names::find::find(name, FIRST) {
+    match lookup::find(name, FIRST_EDITION) {
         Found::String(place) => expand_place(path, file, name, place, values, is_verbose),
         Found::Boolean(_) => refuse(path, 11),
         Found::Number(_) => refuse(path, 11),

@@ -2,15 +2,18 @@
 // edition and through the library only.
 // Proved: it is safe and ends; a refusal's number is that of entry/specs. Assumed: what libc and os say of C.
 ghost use mathlib.Core.Path.{_≡_};
-ghost use Rattle.entry.specs.Answer.{numberOf};
+ghost use Rattle.base.specs.Answer.{numberOf};
 ghost use Rattle.entry.specs.Says.{saysMerged};
+use edition::Edition;
 use entry::FILE_MOST;
 use entry::Merged;
 use ti_common::FILE_ROOM;
-use ti_common::FIRST;
 use ti_common::Status;
 use ti_common::refusal::accept;
 use ti_common::refusal::refuse;
+
+// The edition that the program merges in.
+const EDITION: Edition = names::FIRST_EDITION;
 
 // Document 01's number of the refusal; 0 where there is a file.
 fn number_of(answer: Merged) -> usize
@@ -27,7 +30,7 @@ fn number_of(answer: Merged) -> usize
 // Merges two accepted files and saves the file, or says why not.
 fn merge_to(out: &[u8], first: &[u8], second: &[u8]) -> Status {
     let mut file = [0u8; FILE_MOST];
-    let answer = merge::merge(first, second, FIRST, &mut file);
+    let answer = merge::merge(first, second, EDITION, &mut file);
     let number = number_of(answer);
     match answer {
         Merged::File(n) => {

@@ -3,12 +3,10 @@
 // Proved: it is safe and ends; each line is the one of specs/Lines.antt. Assumed: what libc and os say of C.
 ghost use Prim.Native.Nat.{_≤_};
 ghost use lib.ListN.{length};
-ghost use Rattle.ti_show.specs.Lines.{fileRoom};
+ghost use Rattle.show_lines.specs.Lines.{fileRoom};
 use ti_common::FILE_ROOM;
 use ti_common::Status;
 use ti_common::say;
-
-mod lines;
 
 // Room for any line of a file.
 const LINE_ROOM: usize = 4 * FILE_ROOM + 128;
@@ -17,7 +15,7 @@ fn say_names(file: &[u8]) -> bool
     requires { ⌜ length (now file) ≤ fileRoom ⌝ }
 {
     let mut line = [0u8; LINE_ROOM];
-    let n = lines::names_line(file, &mut line);
+    let n = show_lines::names_line(file, &mut line);
     say(&line[..n])
 }
 
@@ -25,7 +23,7 @@ fn say_capability(file: &[u8], k: usize) -> bool
     requires { ⌜ length (now file) ≤ fileRoom ⌝ }
 {
     let mut line = [0u8; LINE_ROOM];
-    let n = lines::capability_line(file, k, &mut line);
+    let n = show_lines::capability_line(file, k, &mut line);
     say(&line[..n])
 }
 
@@ -34,7 +32,7 @@ fn say_capabilities(file: &[u8]) -> bool
 {
     let mut is_written = true;
     let mut k = 0;
-    while k < lines::ALL {
+    while k < show_lines::ALL {
         is_written = is_written & say_capability(file, k);
         k += 1;
     }
@@ -45,7 +43,7 @@ fn say_beyond(file: &[u8]) -> bool
     requires { ⌜ length (now file) ≤ fileRoom ⌝ }
 {
     let mut line = [0u8; LINE_ROOM];
-    let n = lines::beyond_line(file, &mut line);
+    let n = show_lines::beyond_line(file, &mut line);
     say(&line[..n])
 }
 

@@ -10,12 +10,12 @@ use denote.Laws.{Is}
 use denote.Array.{Array, array-vals}
 use denote.Builtin.{i32}
 use denote.Signed.{sint-vals}
-use Rattle.caps.specs.declared.Edition.{Edition}
-use Rattle.caps.specs.declared.Place.{Place}
-use Rattle.caps.proofs.Edition as E
-use Rattle.caps.proofs.Edition.Laws as E′
-use Rattle.caps.proofs.Place as P
-use Rattle.caps.proofs.Place.Laws as P′
+use Rattle.edition.specs.declared.Edition.{Edition}
+use Rattle.edition.specs.declared.Place.{Place}
+use Rattle.edition.proofs.Edition as E
+use Rattle.edition.proofs.Edition.Laws as E′
+use Rattle.edition.proofs.Place as P
+use Rattle.edition.proofs.Place.Laws as P′
 
 -- the first edition
 abbrev pub first : Edition

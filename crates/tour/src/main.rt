@@ -1,8 +1,8 @@
 // A tour of crate `terminfo`: opens the compiled entry on standard input in the first edition, asks it for its names, its lines and its string
 // cup, expands cup at row 3, column 12, and prints what it got. `visit` holds an entry and lends variables: it is proved by a walk.
 // Proved: it is safe and ends. Assumed: what libc says of C.
-use caps::Edition;
-use caps::Place;
+use edition::Edition;
+use edition::Place;
 use entry::NumberState;
 use expansion::Expansion;
 use libc::STDIN_FILENO;

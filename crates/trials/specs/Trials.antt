@@ -5,11 +5,11 @@ use mathlib.Core.List.{List, [], _∷_, map}
 use Prim.Native.Nat.{ℕ}
 use Rattle.base.specs.Scan.{scan}
 use Rattle.word.specs.Word.{word}
-use Rattle.caps.specs.declared.Edition.{Edition}
-use Rattle.caps.specs.Edition.{okEdition, place}
+use Rattle.edition.specs.declared.Edition.{Edition}
+use Rattle.edition.specs.Edition.{okEdition, place}
 use Rattle.entry.specs.declared.Sizes.{Sizes}
 use Rattle.entry.specs.State.{State, absent, cancelled, present, slotOf, okSlot, okBoolean}
-use Rattle.entry.specs.Answer.{Answer, refused, gives, numberOf}
+use Rattle.base.specs.Answer.{Answer, refused, gives, numberOf}
 use Rattle.entry.specs.Layout.{sizesOf, sizeOf}
 use Rattle.entry.specs.Reading.{okCounts, okNames, okBooleans, okPad, okNumbers, okStrings, reading, slotIn, numberIn}
 use Prim.Native.Char.{code}

@@ -3,7 +3,7 @@
 use mathlib.Core.Path.{subst, ap}
 use native.Mathlib.Omega.{arith}
 use borrow.Author.Needs.{needs}
-use Rattle.entry.specs.Answer.{Answer}
+use Rattle.base.specs.Answer.{Answer}
 use Rattle.text.specs.declared.Compiled.{Compiled}
 use Rattle.text.specs.Compiling.{saysCompiled}
 use Rattle.text_laws.specs.Values.{Bounded}

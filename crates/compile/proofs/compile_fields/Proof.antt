@@ -5,7 +5,7 @@ use native.Mathlib.Omega.{arith}
 use denote.Ref.{now}
 use borrow.Author.Needs.{needs}
 use Rattle.text_laws.specs.HeadingLaws.{header-right}
-use Rattle.compile.specs.CompileLaws.{cleared-holds, holds-named, fields-done, fields-bad}
+use Rattle.compile.proofs.CompileLaws.{cleared-holds, holds-named, fields-done, fields-bad}
 use Rattle.compile.proofs.compile_fields.Statement.{statement}
 use Rattle.compile.proofs.compile_fields.Tie as tie
 

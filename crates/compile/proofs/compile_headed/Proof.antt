@@ -4,7 +4,7 @@ use mathlib.Core.Path.{refl, sym, _∙_}
 use native.Mathlib.Omega.{arith}
 use denote.Ref.{now}
 use borrow.Author.Needs.{needs}
-use Rattle.compile.specs.CompileLaws.{header-comes}
+use Rattle.compile.proofs.CompileLaws.{header-comes}
 use Rattle.compile.proofs.compile_headed.Statement.{statement}
 use Rattle.compile.proofs.compile_headed.Tie as tie
 

@@ -5,7 +5,7 @@ use native.Mathlib.Omega.{arith}
 use denote.Ref.{now}
 use borrow.Author.Needs.{needs}
 use Rattle.text_laws.specs.LineLaws.{LineAfter, lines-after}
-use Rattle.compile.specs.CompileLaws.{text-long, text-comes}
+use Rattle.compile.proofs.CompileLaws.{text-long, text-comes}
 use Rattle.compile.proofs.compile_in.Statement.{statement}
 use Rattle.compile.proofs.compile_in.Tie as tie
 

@@ -11,7 +11,7 @@ use Rattle.expansion.specs.Limits.{stringMost}
 use Rattle.expansion.specs.Form.{formOf}
 use Rattle.expansion.specs.Machine.{run}
 use Rattle.expansion.specs.Expanding.{ended, formed, expanding}
-use Rattle.expand.proofs.AnswerLaws.{given-fits, answer-part}
+use Rattle.expand_output.proofs.AnswerLaws.{given-fits, answer-part}
 use Rattle.expand.proofs.expand_lent.Statement.{statement}
 use Rattle.expand.proofs.expand_lent.Tie as tie
 

@@ -2,7 +2,7 @@
 -- Assumes nothing.
 use mathlib.Core.Path.{sym, _∙_}
 use Rattle.expansion.specs.Items.{argumentAt}
-use Rattle.items.proofs.Cases.{within-true}
+use Rattle.item_parts.proofs.Cases.{within-true}
 use borrow.Author.Needs.{needs}
 use Rattle.items.proofs.argument_at.Statement.{statement}
 use Rattle.items.proofs.argument_at.Tie as tie

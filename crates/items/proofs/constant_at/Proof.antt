@@ -5,7 +5,7 @@ use mir.Syntax.{w32}
 use mir.ValLaws.{toZ-ofZ}
 use Rattle.expansion.specs.declared.Item.the-variants.{Constant}
 use Rattle.expansion.specs.Items.{lexed}
-use Rattle.items.specs.Classes.{lexedConstant}
+use Rattle.item_parts.specs.Classes.{lexedConstant}
 use borrow.Author.Needs.{needs}
 use Rattle.items.proofs.constant_at.Statement.{statement}
 use Rattle.items.proofs.constant_at.Tie as tie

@@ -6,7 +6,7 @@ use Prim.Native.Nat.{ℕ}
 use borrow.Author.Needs.{needs}
 use Rattle.expansion.specs.declared.Item.{Item}
 use Rattle.expansion.specs.Items.{singles, found}
-use Rattle.items.proofs.Cases.{percent-byte, percent-other}
+use Rattle.item_parts.proofs.Cases.{percent-byte, percent-other}
 use Rattle.items.proofs.percent_at.Statement.{statement}
 use Rattle.items.proofs.percent_at.Tie as tie
 

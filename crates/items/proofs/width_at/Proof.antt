@@ -5,7 +5,7 @@ use Prim.Native.Nat.{_≤_}
 use native.Mathlib.Omega.{arith}
 use borrow.Author.Tests.{not-true, not-false}
 use Rattle.expansion.specs.Items.{widthAt}
-use Rattle.items.proofs.Cases.{within-true}
+use Rattle.item_parts.proofs.Cases.{within-true}
 use borrow.Author.Needs.{needs}
 use Rattle.items.proofs.width_at.Statement.{statement}
 use Rattle.items.proofs.width_at.Tie as tie

@@ -10,10 +10,11 @@ use mir.Facts.{toZ-ofZ}
 use borrow.Author.Needs.{needs}
 use Rattle.signed.specs.Signed.{isZero}
 use Rattle.signed.proofs.Laws.{again, called, called-two}
-use Rattle.expansion.specs.Emit.{emitted}
+use Rattle.print.specs.Emit.{emitted}
 use Rattle.expansion.specs.Machine.{effect, applied, truth, inverted, character, stored}
 use Rattle.machine.specs.declared.Step.the-variants.{Push, Go}
-use Rattle.machine.specs.Steps.{machine, stepOf, machineAfter, printedBy}
+use Rattle.variables.specs.Machines.{machine}
+use Rattle.machine.specs.Steps.{stepOf, machineAfter, printedBy}
 use Rattle.machine.proofs.Laws.{emitted-nothing, no-more}
 use Rattle.machine.proofs.take.Statement.{statement}
 use Rattle.machine.proofs.take.Tie as tie

@@ -4,8 +4,8 @@ use denote.Ref.{now}
 use borrow.Author.Needs.{needs}
 use borrow.Author.Tests.{not-true, not-false}
 use Rattle.entry.specs.Says.{saysJudged}
-use Rattle.read.proofs.Laws.{accepted-shorts}
-use Rattle.merge.proofs.Laws.{opens, merge-edition, merge-first}
+use Rattle.file_tables.proofs.Laws.{accepted-shorts}
+use Rattle.merge_states.proofs.Laws.{opens, merge-edition, merge-first}
 use Rattle.merge.proofs.merge.Statement.{statement}
 use Rattle.merge.proofs.merge.Tie as tie
 

@@ -6,8 +6,8 @@ use borrow.Author.Needs.{needs}
 use Rattle.entry.specs.Writing.{encode}
 use Rattle.entry.specs.Says.{saysMerged}
 use Rattle.entry_laws.specs.Merge.{edition-counts}
-use Rattle.states.proofs.Laws.{names-inside}
-use Rattle.merge.proofs.Laws.{opened-file, opened-edition, opened-names, entry-merged, ready, merge-fitted}
+use Rattle.opened_file.proofs.Laws.{names-inside}
+use Rattle.merge_states.proofs.Laws.{opened-file, opened-edition, opened-names, entry-merged, ready, merge-fitted}
 use Rattle.merge.proofs.merge_filled.Statement.{statement}
 use Rattle.merge.proofs.merge_filled.Tie as tie
 

@@ -2,9 +2,9 @@
 use mathlib.Core.Path.{refl, subst}
 use denote.Ref.{now}
 use borrow.Author.Needs.{needs}
-use Rattle.merge.specs.Filled.{StringsMeasured}
-use Rattle.merge.specs.declared.fill.TableSize.{TableSize}
-use Rattle.merge.proofs.Laws.{strings-given, merge-large}
+use Rattle.merge_states.specs.Filled.{StringsMeasured}
+use Rattle.merge_states.specs.declared.TableSize.{TableSize}
+use Rattle.merge_states.proofs.Laws.{strings-given, merge-large}
 use Rattle.merge.proofs.merge_opened.Statement.{statement}
 use Rattle.merge.proofs.merge_opened.Tie as tie
 

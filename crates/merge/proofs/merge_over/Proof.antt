@@ -3,8 +3,8 @@ use mathlib.Core.Path.{sym, ap, _∙_}
 use denote.Ref.{now}
 use borrow.Author.Needs.{needs}
 use Rattle.entry.specs.Says.{saysJudged}
-use Rattle.read.proofs.Laws.{accepted-shorts}
-use Rattle.merge.proofs.Laws.{opens, opened-edition, merge-second}
+use Rattle.file_tables.proofs.Laws.{accepted-shorts}
+use Rattle.merge_states.proofs.Laws.{opens, opened-edition, merge-second}
 use Rattle.merge.proofs.merge_over.Statement.{statement}
 use Rattle.merge.proofs.merge_over.Tie as tie
 

@@ -2,7 +2,7 @@
 use mathlib.Core.Path.{refl}
 use denote.Ref.{now}
 use borrow.Author.Needs.{needs}
-use Rattle.merge.proofs.Laws.{ready-size, ready-sure, fit-size, fit-room, fit-file}
+use Rattle.merge_states.proofs.Laws.{ready-size, ready-sure, fit-size, fit-room, fit-file}
 use Rattle.merge.proofs.write_fitting.Statement.{statement}
 use Rattle.merge.proofs.write_fitting.Tie as tie
 

@@ -1,6 +1,6 @@
 -- `names::name_of` meets its contract: each kind's list stands in all names.
 use mathlib.Core.Path.{sym, ap, _∙_}
-use Rattle.caps.specs.declared.Kind.{Kind}
+use Rattle.edition.specs.declared.Kind.{Kind}
 use Rattle.names.specs.Naming.{naming}
 use Rattle.names.proofs.Laws.{named-boolean, named-number, named-string}
 use borrow.Author.Needs.{needs}

@@ -7,7 +7,7 @@ use mir.Syntax.{w32}
 use mir.Val.{ofZ}
 use mir.Facts.{toZ-ofZ}
 use Rattle.expansion.specs.Print.{numeral}
-use Rattle.print.specs.NumeralLaws.{minus-bits, decimal-minus, decimal-plain, unsigned}
+use Rattle.print.proofs.NumeralLaws.{minus-bits, decimal-minus, decimal-plain, unsigned}
 use borrow.Author.Needs.{needs}
 use Rattle.print.proofs.numeral_of.Statement.{statement}
 use Rattle.print.proofs.numeral_of.Tie as tie

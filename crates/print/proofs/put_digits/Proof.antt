@@ -5,7 +5,7 @@ use native.Mathlib.Omega.{arith}
 use lib.ListN.{length-set}
 use borrow.Author.Tests.{lt-ltb}
 use Rattle.expansion.specs.Print.{digits}
-use Rattle.print.specs.DigitLaws.{Placed, placed-none, placed-some, placed-length, placed-fits, placed-more, placed-all}
+use Rattle.print.proofs.DigitLaws.{Placed, placed-none, placed-some, placed-length, placed-fits, placed-more, placed-all}
 use Rattle.print.proofs.put_digits.Statement.{statement}
 use Rattle.print.proofs.put_digits.Tie as tie
 

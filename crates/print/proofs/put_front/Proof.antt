@@ -7,7 +7,7 @@ use native.Mathlib.Omega.{arith}
 use lib.ListN.{length, replicate, length-replicate}
 use Rattle.base.specs.Overwrite.{putAt, put-run}
 use Rattle.print.specs.Numeral.{minusSign, front}
-use Rattle.print.specs.NumeralLaws.{front-none}
+use Rattle.print.proofs.NumeralLaws.{front-none}
 use borrow.Author.Needs.{needs}
 use Rattle.print.proofs.put_front.Statement.{statement}
 use Rattle.print.proofs.put_front.Tie as tie

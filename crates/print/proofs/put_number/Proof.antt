@@ -5,9 +5,9 @@ use Prim.Native.Nat.{_<_, _^_}
 use native.Mathlib.Omega.{arith}
 use lib.ListN.{length}
 use mir.Facts.{toZ-ofZ}
-use Rattle.print.specs.DigitLaws.{digits-word}
+use Rattle.print.proofs.DigitLaws.{digits-word}
 use Rattle.print.specs.Numeral.{NumeralOf}
-use Rattle.print.specs.NumeralLaws.{sign-short, Printing, printing-short, printing-length, printing-put, printing-not, decimal-digits, plain-is}
+use Rattle.print.proofs.NumeralLaws.{sign-short, Printing, printing-short, printing-length, printing-put, printing-not, decimal-digits, plain-is}
 use borrow.Author.Needs.{needs}
 use Rattle.print.proofs.put_number.Statement.{statement}
 use Rattle.print.proofs.put_number.Tie as tie

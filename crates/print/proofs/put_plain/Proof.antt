@@ -5,8 +5,8 @@ use Prim.Native.Nat.{_+_, _-_, _≤_}
 use native.Mathlib.Omega.{arith}
 use lib.ListN.{length}
 use Rattle.expansion.specs.Print.{digits}
-use Rattle.print.specs.DigitLaws.{digits-word}
-use Rattle.print.specs.EmitLaws.{emitted-fits, emitted-not}
+use Rattle.print.proofs.DigitLaws.{digits-word}
+use Rattle.print.proofs.EmitLaws.{emitted-fits, emitted-not}
 use borrow.Author.Needs.{needs}
 use Rattle.print.proofs.put_plain.Statement.{statement}
 use Rattle.print.proofs.put_plain.Tie as tie

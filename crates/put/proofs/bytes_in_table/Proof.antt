@@ -2,7 +2,7 @@
 -- Assumes nothing.
 use mathlib.Core.Path.{sym}
 use native.Mathlib.Omega.{arith}
-use Rattle.put.specs.TableLaws.{bytes-present, bytes-none}
+use Rattle.put.proofs.TableLaws.{bytes-present, bytes-none}
 use Rattle.put.proofs.bytes_in_table.Statement.{statement}
 use Rattle.put.proofs.bytes_in_table.Tie as tie
 

@@ -12,7 +12,7 @@ use Rattle.base.specs.Overwrite.{putAt, put-nil}
 use Rattle.entry.specs.State.{booleanCode}
 use Rattle.entry.specs.Writing.{stateOf}
 use Rattle.put.specs.Table.{booleansOf}
-use Rattle.put.specs.TableLaws.{byte-turn}
+use Rattle.put.proofs.TableLaws.{byte-turn}
 use Rattle.put.proofs.put_booleans.Statement.{statement}
 use Rattle.put.proofs.put_booleans.Tie as tie
 

@@ -8,7 +8,7 @@ use borrow.Author.Needs.{needs}
 use Rattle.base.specs.Overwrite.{put-nil}
 use Rattle.word.specs.Word.{words}
 use Rattle.entry.specs.Writing.{header}
-use Rattle.put.specs.TableLaws.{put-front-short}
+use Rattle.put.proofs.TableLaws.{put-front-short}
 use Rattle.put.proofs.put_header.Statement.{statement}
 use Rattle.put.proofs.put_header.Tie as tie
 

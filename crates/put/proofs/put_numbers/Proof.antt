@@ -12,7 +12,7 @@ use Rattle.base.specs.Overwrite.{putAt, put-nil}
 use Rattle.word.specs.Word.{words}
 use Rattle.entry.specs.Writing.{numberCode, stateOf}
 use Rattle.put.specs.Table.{numbersOf}
-use Rattle.put.specs.TableLaws.{short-turn}
+use Rattle.put.proofs.TableLaws.{short-turn}
 use Rattle.put.proofs.put_numbers.Statement.{statement}
 use Rattle.put.proofs.put_numbers.Tie as tie
 

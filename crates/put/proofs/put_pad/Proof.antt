@@ -8,7 +8,7 @@ use denote.Ref.{now}
 use borrow.Author.Needs.{needs}
 use Rattle.base.specs.Overwrite.{putAt, put-nil, put-set}
 use Rattle.entry.specs.Writing.{padding}
-use Rattle.put.specs.TableLaws.{padding-one}
+use Rattle.put.proofs.TableLaws.{padding-one}
 use Rattle.put.proofs.put_pad.Statement.{statement}
 use Rattle.put.proofs.put_pad.Tie as tie
 

@@ -6,7 +6,7 @@ use denote.Ref.{now}
 use borrow.Author.Needs.{needs}
 use Rattle.base.specs.Overwrite.{putAt}
 use Rattle.word.specs.Word.{bytes}
-use Rattle.put.specs.TableLaws.{offset-code}
+use Rattle.put.proofs.TableLaws.{offset-code}
 use Rattle.put.proofs.put_slot.Statement.{statement}
 use Rattle.put.proofs.put_slot.Tie as tie
 

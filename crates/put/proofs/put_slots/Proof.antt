@@ -13,7 +13,7 @@ use Rattle.word.specs.Word.{words}
 use Rattle.entry.specs.Reading.{offset}
 use Rattle.entry.specs.Writing.{offsetCode, stateOf}
 use Rattle.put.specs.Table.{total, slotAt, slotsOf}
-use Rattle.put.specs.TableLaws.{total-more, total-below, short-turn}
+use Rattle.put.proofs.TableLaws.{total-more, total-below, short-turn}
 use Rattle.put.proofs.put_slots.Statement.{statement}
 use Rattle.put.proofs.put_slots.Tie as tie
 

@@ -11,7 +11,7 @@ use Rattle.base.specs.Tabulate.{tabulate}
 use Rattle.base.specs.Overwrite.{putAt, put-nil}
 use Rattle.entry.specs.Writing.{stringTable}
 use Rattle.put.specs.Table.{stringAt, stringsOf, total}
-use Rattle.put.specs.TableLaws.{total-more, total-below, lent-described, string-turn}
+use Rattle.put.proofs.TableLaws.{total-more, total-below, lent-described, string-turn}
 use Rattle.put.proofs.put_table.Statement.{statement}
 use Rattle.put.proofs.put_table.Tie as tie
 

@@ -6,7 +6,7 @@ use native.Mathlib.Omega.{arith}
 use denote.Ref.{now}
 use borrow.Author.Needs.{needs}
 use Rattle.put.specs.Table.{total}
-use Rattle.put.specs.TableLaws.{total-more, total-below}
+use Rattle.put.proofs.TableLaws.{total-more, total-below}
 use Rattle.put.proofs.table_size.Statement.{statement}
 use Rattle.put.proofs.table_size.Tie as tie
 

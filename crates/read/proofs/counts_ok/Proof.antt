@@ -2,7 +2,7 @@
 use mathlib.Core.Bool.{and-false}
 use borrow.Author.Tests.{le-leb, lt-leb}
 use Rattle.entry.specs.Reading.{okCounts}
-use Rattle.read.proofs.Laws.{counts-least, counts-names, counts-booleans, counts-numbers, counts-strings, counts-table}
+use Rattle.file_tables.proofs.Laws.{counts-least, counts-names, counts-booleans, counts-numbers, counts-strings, counts-table}
 use Rattle.read.proofs.counts_ok.Statement.{statement}
 use Rattle.read.proofs.counts_ok.Tie as tie
 

@@ -5,7 +5,7 @@ use native.Mathlib.Omega.{arith}
 use borrow.Author.Tests.{not-true, not-false}
 use Rattle.entry.specs.Layout.{sizeOf}
 use Rattle.entry.specs.Reading.{okCounts}
-use Rattle.read.proofs.Laws.{placed, counts-named, file-short, file-long, file-magic, file-counts, file-size}
+use Rattle.file_tables.proofs.Laws.{placed, counts-named, file-short, file-long, file-magic, file-counts, file-size}
 use borrow.Author.Needs.{needs}
 use Rattle.read.proofs.judge.Statement.{statement}
 use Rattle.read.proofs.judge.Tie as tie

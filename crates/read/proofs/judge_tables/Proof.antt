@@ -1,7 +1,7 @@
 -- `read::judge_tables` meets its contract: one law for each refusal, in order.
 use mathlib.Core.Path.{sym, _∙_}
 use borrow.Author.Tests.{not-true, not-false}
-use Rattle.read.proofs.Laws.{tables-names, tables-booleans, tables-numbers, tables-strings, tables-done}
+use Rattle.file_tables.proofs.Laws.{tables-names, tables-booleans, tables-numbers, tables-strings, tables-done}
 use borrow.Author.Needs.{needs}
 use Rattle.read.proofs.judge_tables.Statement.{statement}
 use Rattle.read.proofs.judge_tables.Tie as tie

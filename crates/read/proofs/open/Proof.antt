@@ -2,9 +2,9 @@
 use denote.Ref.{now}
 use mathlib.Core.Path.{sym, ap, _∙_}
 use borrow.Author.Tests.{not-true, not-false}
-use Rattle.entry.specs.Answer.{gives}
+use Rattle.base.specs.Answer.{gives}
 use Rattle.entry.specs.Says.{saysJudged}
-use Rattle.read.proofs.Laws.{open-edition, open-file, accepted-shorts}
+use Rattle.file_tables.proofs.Laws.{open-edition, open-file, accepted-shorts}
 use borrow.Author.Needs.{needs}
 use Rattle.read.proofs.open.Statement.{statement}
 use Rattle.read.proofs.open.Tie as tie

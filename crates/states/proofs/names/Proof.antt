@@ -2,7 +2,7 @@
 use mathlib.Core.Path.{sym, ap, _∙_}
 use borrow.Author.Needs.{needs}
 use Rattle.entry.specs.Says.{saysOpened}
-use Rattle.states.proofs.Laws.{asking-unopened}
+use Rattle.opened_file.proofs.Laws.{asking-unopened}
 use Rattle.states.proofs.names.Statement.{statement}
 use Rattle.states.proofs.names.Tie as tie
 

@@ -3,7 +3,7 @@ use mathlib.Core.Path.{subst, sym, ap, _∙_}
 use Rattle.entry.specs.Asking.{namesGiven}
 use Rattle.entry.specs.Says.{saysNames}
 use Rattle.states.specs.Held.{IsPart}
-use Rattle.states.proofs.Laws.{names-inside}
+use Rattle.opened_file.proofs.Laws.{names-inside}
 use borrow.Author.Needs.{needs}
 use Rattle.states.proofs.names_part.Statement.{statement}
 use Rattle.states.proofs.names_part.Tie as tie

@@ -3,7 +3,7 @@ use mathlib.Core.Path.{subst, sym, ap, _∙_}
 use Rattle.entry.specs.Asking.{partGiven}
 use Rattle.entry.specs.Says.{saysString}
 use Rattle.states.specs.Held.{IsPart}
-use Rattle.states.proofs.Laws.{string-inside}
+use Rattle.opened_file.proofs.Laws.{string-inside}
 use borrow.Author.Needs.{needs}
 use Rattle.states.proofs.string_part.Statement.{statement}
 use Rattle.states.proofs.string_part.Tie as tie

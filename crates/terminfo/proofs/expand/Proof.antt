@@ -55,7 +55,7 @@ use Rattle.expansion.proofs.Expanded as X
 use Rattle.expansion.proofs.Expanded.Laws as X′
 use Rattle.expansion.proofs.Expansion as R
 use Rattle.expansion.proofs.Expansion.Laws as R′
-use Rattle.expand.specs.Answers.{ExpandedAs}
+use Rattle.expand_output.specs.Answers.{ExpandedAs}
 use Rattle.expand.proofs.expand as step
 use Rattle.expand.proofs.expand.Symbol as step-def
 use Rattle.expand.proofs.expand.Symbol.{name as #callee}

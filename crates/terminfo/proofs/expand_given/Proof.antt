@@ -46,25 +46,26 @@ use denote.Triple.Table.{entered, cited}
 use denote.Triple.Walked.{says, Stays, stay-dropped, gave-slice, walkOf, AllGo, goes-dropped, goes-gave-slice, Walks, ends-at, walked, walk-meets}
 use denote.Exit.{yes}
 use denote.Triple.Clauses.{Lasts, ensured, lasts}
-use Rattle.caps.specs.declared.Edition.{Edition}
-use Rattle.caps.specs.declared.Place.{Place}
-use Rattle.caps.proofs.Edition as E
-use Rattle.caps.proofs.Edition.Laws as E′
-use Rattle.caps.proofs.Place as P
-use Rattle.caps.proofs.Place.Laws as P′
-use Rattle.entry.specs.Answer.{Answer}
+use Rattle.edition.specs.declared.Edition.{Edition}
+use Rattle.edition.specs.declared.Place.{Place}
+use Rattle.edition.proofs.Edition as E
+use Rattle.edition.proofs.Edition.Laws as E′
+use Rattle.edition.proofs.Place as P
+use Rattle.edition.proofs.Place.Laws as P′
+use Rattle.base.specs.Answer.{Answer}
 use Rattle.entry.specs.Asking.{askingString, partGiven}
 use Rattle.states.specs.Held.{IsPart}
 use Rattle.expansion.specs.declared.Lasting.{Lasting}
 use Rattle.expansion.specs.declared.Expansion.{Expansion}
 use Rattle.expansion.specs.Expanding.{Expanding, expanding}
-use Rattle.expand.specs.Answers.{LentAs}
+use Rattle.expand_output.specs.Answers.{LentAs}
 use Rattle.expansion.proofs.Lasting as L
 use Rattle.expansion.proofs.Lasting.Laws as L′
 use Rattle.expansion.proofs.Expansion as R
 use Rattle.expansion.proofs.Expansion.Laws as R′
-use Rattle.terminfo.specs.Entries.{entryOf, entryString}
-use Rattle.terminfo.specs.EntryLaws.{opened-string}
+use Rattle.terminfo.specs.Entries.{entryOf}
+use Rattle.entry_numbers.specs.Entries.{entryString}
+use Rattle.entry_numbers.proofs.EntryLaws.{opened-string}
 use Rattle.terminfo.specs.Lent.{zeroLasting, expandingGiven, WrittenAs}
 use Rattle.terminfo.specs.declared.Entry.{Entry}
 use Rattle.terminfo.proofs.Lend.{value, cell, lends, back}

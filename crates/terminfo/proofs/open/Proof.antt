@@ -38,20 +38,20 @@ use denote.Triple.Table.{entered, cited}
 use denote.Triple.Walked.{says, Stays, stay-none, stay-none-slice, walkOf, goes-none, goes-none-slice, Walks, ends-at, walked, walk-meets}
 use denote.Exit.{yes}
 use denote.Triple.Clauses.{ensured, lasts}
-use Rattle.caps.specs.declared.Edition.{Edition}
-use Rattle.caps.proofs.Edition as E
-use Rattle.caps.proofs.Edition.Laws as E′
-use Rattle.terminfo.specs.Entries.{opened}
-use Rattle.terminfo.specs.declared.EntryNumbers.{EntryNumbers}
+use Rattle.edition.specs.declared.Edition.{Edition}
+use Rattle.edition.proofs.Edition as E
+use Rattle.edition.proofs.Edition.Laws as E′
+use Rattle.entry_numbers.specs.Entries.{opened}
+use Rattle.entry_numbers.specs.declared.EntryNumbers.{EntryNumbers}
 use Rattle.terminfo.specs.declared.Entry.{Entry}
 use Rattle.terminfo.proofs.Entry as T
 use Rattle.terminfo.proofs.Entry.Laws as T′
-use Rattle.terminfo.proofs.EntryNumbers as N
-use Rattle.terminfo.proofs.EntryNumbers.Laws as N′
-use Rattle.terminfo.proofs.slices.numbers_in as step
-use Rattle.terminfo.proofs.slices.numbers_in.Symbol as step-def
-use Rattle.terminfo.proofs.slices.numbers_in.Symbol.{name as #callee}
-use Rattle.terminfo.proofs.slices.numbers_in.Met as step-thm
+use Rattle.entry_numbers.proofs.EntryNumbers as N
+use Rattle.entry_numbers.proofs.EntryNumbers.Laws as N′
+use Rattle.entry_numbers.proofs.numbers_in as step
+use Rattle.entry_numbers.proofs.numbers_in.Symbol as step-def
+use Rattle.entry_numbers.proofs.numbers_in.Symbol.{name as #callee}
+use Rattle.entry_numbers.proofs.numbers_in.Met as step-thm
 use Rattle.terminfo.proofs.open.Key.{name as #called}
 use Rattle.terminfo.proofs.open as new
 use Rattle.terminfo.proofs.open.Statement as stated
@@ -152,4 +152,4 @@ open-spec 𝓤 H 𝓜 𝓖 𝓡 =
     entered 𝓤 H (tripleOf 𝓤 H (𝓖 .A) new.signature (new.spec 𝓤 H (𝓖 .A) (𝓜 .mem) (𝓡 .run)))
     (tables 𝓤 H 𝓜 𝓡 code.env .C) (tables 𝓤 H 𝓜 𝓡 code.env .Λ) #called code.function (code.unfolded 𝓤 H 𝓜 𝓡)
     (new-meets 𝓤 H (𝓖 .A) (givenOf 𝓤 H 𝓜 𝓖) (𝓜 .mem) (𝓡 .run) (tablesOf 𝓤 H 𝓜 (tables 𝓤 H 𝓜 𝓡 code.env))
-    (cited 𝓤 H (Step 𝓤 H (𝓖 .A) (𝓜 .mem) (𝓡 .run)) 𝓜 𝓡 code.env #callee step-def.routine code.calls-terminfo·slices·numbers-in (step-thm.met 𝓤 H 𝓜 𝓖 𝓡)))
+    (cited 𝓤 H (Step 𝓤 H (𝓖 .A) (𝓜 .mem) (𝓡 .run)) 𝓜 𝓡 code.env #callee step-def.routine code.calls-entry-numbers·numbers-in (step-thm.met 𝓤 H 𝓜 𝓖 𝓡)))

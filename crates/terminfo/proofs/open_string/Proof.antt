@@ -36,16 +36,17 @@ use denote.Triple.Table.{entered, cited}
 use denote.Triple.Walked.{says, Stays, stay-none, stay-none-slice, walkOf, goes-none, goes-none-slice, Walks, ends-at, walked, walk-meets}
 use denote.Exit.{yes}
 use denote.Triple.Clauses.{ensured, lasts}
-use Rattle.caps.specs.declared.Edition.{Edition}
-use Rattle.caps.specs.declared.Place.{Place}
-use Rattle.caps.proofs.Edition as E
-use Rattle.caps.proofs.Edition.Laws as E′
-use Rattle.caps.proofs.Place as P
-use Rattle.caps.proofs.Place.Laws as P′
+use Rattle.edition.specs.declared.Edition.{Edition}
+use Rattle.edition.specs.declared.Place.{Place}
+use Rattle.edition.proofs.Edition as E
+use Rattle.edition.proofs.Edition.Laws as E′
+use Rattle.edition.proofs.Place as P
+use Rattle.edition.proofs.Place.Laws as P′
 use Rattle.entry.specs.Asking.{askingString, partGiven}
 use Rattle.states.specs.Held.{IsPart}
-use Rattle.terminfo.specs.Entries.{entryOf, entryString}
-use Rattle.terminfo.specs.EntryLaws.{opened-string}
+use Rattle.terminfo.specs.Entries.{entryOf}
+use Rattle.entry_numbers.specs.Entries.{entryString}
+use Rattle.entry_numbers.proofs.EntryLaws.{opened-string}
 use Rattle.terminfo.specs.declared.Entry.{Entry}
 use Rattle.terminfo.proofs.Entry as T
 use Rattle.terminfo.proofs.Entry.Laws as T′

@@ -44,10 +44,10 @@ use denote.Triple.Table.{entered, cited}
 use denote.Triple.Walked.{Stays, stay-dropped, gave-slice, walkOf, AllGo, goes-dropped, goes-gave-slice, Walks, ends-at, walked, walk-meets}
 use denote.Exit.{yes}
 use denote.Triple.Clauses.{Lasts, atExit, ensured, lasts}
-use Rattle.caps.proofs.Edition as E
-use Rattle.caps.proofs.Edition.Laws as E′
-use Rattle.caps.proofs.Place as P
-use Rattle.caps.proofs.Place.Laws as P′
+use Rattle.edition.proofs.Edition as E
+use Rattle.edition.proofs.Edition.Laws as E′
+use Rattle.edition.proofs.Place as P
+use Rattle.edition.proofs.Place.Laws as P′
 use Rattle.entry.specs.declared.NumberState.{NumberState}
 use Rattle.entry.proofs.NumberState as S
 use Rattle.entry.proofs.NumberState.Laws as S′

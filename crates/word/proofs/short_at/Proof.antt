@@ -1,6 +1,6 @@
 use Prim.Native.Nat.{_+_}
 use native.Mathlib.Omega.{arith}
-use Rattle.word.specs.WordLaws.{short-eq}
+use Rattle.word.proofs.WordLaws.{short-eq}
 use borrow.Author.Needs.{needs}
 use Rattle.word.proofs.short_at.Statement.{statement}
 use Rattle.word.proofs.short_at.Tie as tie

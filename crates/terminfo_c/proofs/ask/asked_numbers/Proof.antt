@@ -7,7 +7,7 @@ use native.Mathlib.Omega.{arith}
 use lib.ListN.{length, getD}
 use Rattle.base.specs.Overwrite.{putAt, put-nil, put-store, put-whole}
 use Rattle.base.specs.Tabulate.{tabulate, length-tabulate, tabulate-more}
-use Rattle.caps.specs.declared.Edition.{Edition}
+use Rattle.edition.specs.declared.Edition.{Edition}
 use Rattle.terminfo_c.specs.Calls.{askedCode}
 use borrow.Author.Needs.{needs}
 use Rattle.terminfo_c.proofs.ask.asked_numbers.Statement.{statement}

@@ -2,7 +2,7 @@
 -- Assumes nothing.
 use mathlib.Core.Path.{sym, ap, _∙_}
 use borrow.Author.Needs.{needs}
-use Rattle.entry.specs.Answer.{isGiven}
+use Rattle.base.specs.Answer.{isGiven}
 use Rattle.entry.specs.Says.{saysJudged}
 use Rattle.ti_common.proofs.refusal.accept.Statement.{statement}
 use Rattle.ti_common.proofs.refusal.accept.Tie as tie

@@ -1,5 +1,0 @@
-pub mod Held
-pub mod KeepLaws
-pub mod WalkLaws
-pub mod WriteLaws
-pub mod CompileLaws

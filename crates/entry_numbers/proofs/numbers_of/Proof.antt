@@ -1,0 +1,28 @@
+-- `entry_numbers::numbers_of` meets its contract: by what opening answered.
+use mathlib.Core.Path.{sym, ap, _∙_}
+use Rattle.edition.specs.declared.Edition.{Edition}
+use Rattle.entry.specs.Says.{saysOpened}
+use Rattle.entry_numbers.specs.Entries.{numbersOf}
+use borrow.Author.Needs.{needs}
+use Rattle.entry_numbers.proofs.numbers_of.Statement.{statement}
+use Rattle.entry_numbers.proofs.numbers_of.Tie as tie
+use Rattle.entry_numbers.proofs.refusal_number.Reads as refusal-number-reads
+
+enum-known-o : tie.Need-enum-known-o
+enum-known-o c = search needs
+
+enum-known-o-2 : tie.Need-enum-known-o-2
+enum-known-o-2 c = search needs
+
+refusal-number-requires : tie.Need-refusal-number-requires
+refusal-number-requires c κs = search needs
+
+returns : tie.Need-returns
+returns c = rw (c .before .o .given .1)
+
+returns-2 : tie.Need-returns-2
+returns-2 c = rw (c .before .before .o2 .given .1, c .refusal-number .ensures)
+
+pub numbers-of-spec : {M : Type 1} → statement M
+numbers-of-spec =
+    tie.close (tie.spec enum-known-o enum-known-o-2 refusal-number-requires returns returns-2)

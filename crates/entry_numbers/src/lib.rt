@@ -1,0 +1,228 @@
+// What opening gave for a file, as numbers, and the questions about them (document 01: Compiled entry): numbers that opening wouldn't give for
+// the file are answered 17. Proved: each function answers every file and all numbers as specs/ says. Assumed: nothing.
+ghost use mathlib.Core.Path.{_≡_};
+ghost use Rattle.entry.specs.Asking.{partGiven, namesGiven};
+ghost use Rattle.entry.specs.Says.{saysNames, saysBoolean, saysNumber, saysString, fileNumber, saysOpened};
+ghost use Rattle.states.specs.Held.{IsPart};
+ghost use Rattle.entry_numbers.specs.Entries.{entryRefusal, entryNames, entryBoolean, entryNumber, entryString, entryBeyond, saysBeyond, numbersOf, opened, sameEdition, sameTables, sameBeyond, same};
+use edition::Edition;
+use edition::Place;
+use entry::Beyond;
+use entry::BooleanState;
+use entry::FileRefusal;
+use entry::Names;
+use entry::NumberState;
+use entry::Opened;
+use entry::StringState;
+use entry::Tables;
+
+// What opening gave: the edition, the tables, the slots beyond the edition. On a refusal all are 0 but the refusal's number, which is 0
+// otherwise.
+pub struct EntryNumbers {
+    edition: Edition,
+    tables: Tables,
+    beyond: Beyond,
+    refusal: usize,
+}
+
+// How many slots lie beyond the edition.
+pub enum BeyondEdition {
+    Slots(Beyond),
+    // 17: opening would not give the entry
+    Refused,
+}
+
+const NO_EDITION: Edition = Edition {
+    booleans: 0,
+    numbers: 0,
+    strings: 0,
+};
+
+const NO_TABLES: Tables = Tables {
+    booleans: 0,
+    numbers: 0,
+    strings: 0,
+    booleans_at: 0,
+    numbers_at: 0,
+    strings_at: 0,
+    table_at: 0,
+};
+
+const NO_BEYOND: Beyond = Beyond {
+    booleans: 0,
+    numbers: 0,
+    strings: 0,
+};
+
+const EDITION_REFUSED: EntryNumbers = EntryNumbers {
+    edition: NO_EDITION,
+    tables: NO_TABLES,
+    beyond: NO_BEYOND,
+    refusal: 3,
+};
+
+fn refusal_number(why: FileRefusal) -> usize
+    ensures { λ r. ⌜ r ≡ fileNumber why ⌝ }
+{
+    match why {
+        FileRefusal::Length => 1,
+        FileRefusal::Magic => 2,
+        FileRefusal::Counts => 3,
+        FileRefusal::Names => 4,
+        FileRefusal::Boolean => 5,
+        FileRefusal::Number => 6,
+        FileRefusal::Slot => 7,
+    }
+}
+
+// What opening in an edition answered, as numbers.
+fn numbers_of(edition: Edition, o: Opened) -> EntryNumbers
+    ensures { λ r. ⌜ r ≡ numbersOf edition (saysOpened o) ⌝ }
+{
+    match o {
+        Opened::Entry(tables, beyond) => EntryNumbers {
+            edition,
+            tables,
+            beyond,
+            refusal: 0,
+        },
+        Opened::Refused(why) => EntryNumbers {
+            edition: NO_EDITION,
+            tables: NO_TABLES,
+            beyond: NO_BEYOND,
+            refusal: refusal_number(why),
+        },
+    }
+}
+
+pub fn numbers_in(file: &[u8], edition: Edition) -> EntryNumbers
+    ensures { λ r. ⌜ r ≡ opened edition (now (file .entry)) ⌝ }
+{
+    let o = read::open(file, edition);
+    numbers_of(edition, o)
+}
+
+fn same_edition(a: Edition, b: Edition) -> bool
+    ensures { λ r. ⌜ r ≡ sameEdition a b ⌝ }
+{
+    (a.booleans == b.booleans) & ((a.numbers == b.numbers) & (a.strings == b.strings))
+}
+
+fn same_tables(a: Tables, b: Tables) -> bool
+    ensures { λ r. ⌜ r ≡ sameTables a b ⌝ }
+{
+    (a.booleans == b.booleans)
+        & ((a.numbers == b.numbers)
+            & ((a.strings == b.strings)
+                & ((a.booleans_at == b.booleans_at)
+                    & ((a.numbers_at == b.numbers_at)
+                        & ((a.strings_at == b.strings_at) & (a.table_at == b.table_at))))))
+}
+
+fn same_beyond(a: Beyond, b: Beyond) -> bool
+    ensures { λ r. ⌜ r ≡ sameBeyond a b ⌝ }
+{
+    (a.booleans == b.booleans) & ((a.numbers == b.numbers) & (a.strings == b.strings))
+}
+
+fn same_numbers(a: EntryNumbers, b: EntryNumbers) -> bool
+    ensures { λ r. ⌜ r ≡ same a b ⌝ }
+{
+    same_edition(a.edition, b.edition)
+        & (same_tables(a.tables, b.tables)
+            & (same_beyond(a.beyond, b.beyond) & (a.refusal == b.refusal)))
+}
+
+pub fn refusal_in(file: &[u8], n: EntryNumbers) -> usize
+    ensures { λ r. ⌜ r ≡ entryRefusal (now (file .entry)) n ⌝ }
+{
+    let e = n.edition;
+    if same_numbers(n, numbers_in(file, e)) {
+        return n.refusal;
+    }
+    if same_numbers(n, EDITION_REFUSED) {
+        return n.refusal;
+    }
+    17
+}
+
+pub fn names_in(file: &[u8], n: EntryNumbers) -> Names
+    ensures { λ r. ⌜ saysNames r ≡ entryNames (now (file .entry)) n ⌝ }
+{
+    let e = n.edition;
+    let o = read::open(file, e);
+    if !same_numbers(n, numbers_of(e, o)) {
+        return Names::Refused;
+    }
+    match o {
+        Opened::Entry(t, _) => Names::At(opened_file::names_opened(file, e, t)),
+        Opened::Refused(_) => Names::Refused,
+    }
+}
+
+pub fn boolean_in(file: &[u8], n: EntryNumbers, place: Place) -> BooleanState
+    ensures { λ r. ⌜ saysBoolean r ≡ entryBoolean (now (file .entry)) n place ⌝ }
+{
+    let e = n.edition;
+    let o = read::open(file, e);
+    if !same_numbers(n, numbers_of(e, o)) {
+        return BooleanState::Refused;
+    }
+    opened_file::boolean_if_opened(file, e, o, place)
+}
+
+pub fn number_in(file: &[u8], n: EntryNumbers, place: Place) -> NumberState
+    ensures { λ r. ⌜ saysNumber r ≡ entryNumber (now (file .entry)) n place ⌝ }
+{
+    let e = n.edition;
+    let o = read::open(file, e);
+    if !same_numbers(n, numbers_of(e, o)) {
+        return NumberState::Refused;
+    }
+    opened_file::number_if_opened(file, e, o, place)
+}
+
+pub fn string_in(file: &[u8], n: EntryNumbers, place: Place) -> StringState
+    ensures { λ r. ⌜ saysString r ≡ entryString (now (file .entry)) n place ⌝ }
+{
+    let e = n.edition;
+    let o = read::open(file, e);
+    if !same_numbers(n, numbers_of(e, o)) {
+        return StringState::Refused;
+    }
+    opened_file::string_if_opened(file, e, o, place)
+}
+
+pub fn beyond_in(file: &[u8], n: EntryNumbers) -> BeyondEdition
+    ensures { λ r. ⌜ saysBeyond r ≡ entryBeyond (now (file .entry)) n ⌝ }
+{
+    let e = n.edition;
+    let o = read::open(file, e);
+    if !same_numbers(n, numbers_of(e, o)) {
+        return BeyondEdition::Refused;
+    }
+    match o {
+        Opened::Entry(_, b) => BeyondEdition::Slots(b),
+        Opened::Refused(_) => BeyondEdition::Refused,
+    }
+}
+
+pub fn names_part_in(file: &[u8], n: EntryNumbers) -> &[u8]
+    ensures { λ r. ⌜ IsPart (file .entry) r (namesGiven (entryNames (now (file .entry)) n)) ⌝ }
+{
+    match names_in(file, n) {
+        Names::At(p) => states::part(file, p),
+        Names::Refused => states::part(file, states::NO_PART),
+    }
+}
+
+pub fn string_part_in(file: &[u8], n: EntryNumbers, place: Place) -> &[u8]
+    ensures { λ r. ⌜ IsPart (file .entry) r (partGiven (entryString (now (file .entry)) n place)) ⌝ }
+{
+    match string_in(file, n, place) {
+        StringState::Present(p) => states::part(file, p),
+        StringState::Absent => states::part(file, states::NO_PART),
+        StringState::Cancelled => states::part(file, states::NO_PART),
+        StringState::Refused => states::part(file, states::NO_PART),
+    }
+}

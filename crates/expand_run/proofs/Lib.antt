@@ -1,0 +1,2 @@
+pub mod FailedLaws
+pub mod Laws

@@ -1,4 +1,0 @@
-pub mod Fits
-pub mod Usual
-pub mod UsualLaws
-pub mod Putting

@@ -1,0 +1,47 @@
+-- `show_lines::beyond_line` meets its contract, by what opening answers.
+-- Assumes nothing.
+use mathlib.Core.Path.{sym, ap, _∙_}
+use native.Mathlib.Omega.{arith}
+use denote.Ref.{now}
+use Rattle.entry.specs.Says.{saysOpened}
+use Rattle.shown.specs.Puts.{puts-first}
+use Rattle.show_lines.specs.Lines.{beyondLine}
+use Rattle.show_lines.proofs.Laws.{holds-none}
+use borrow.Author.Needs.{needs}
+use Rattle.show_lines.proofs.beyond_line.Statement.{statement}
+use Rattle.show_lines.proofs.beyond_line.Tie as tie
+
+open-requires : tie.Need-open-requires
+open-requires c κs = search needs
+
+enum-known-beyond : tie.Need-enum-known-beyond
+enum-known-beyond c = search needs
+
+put-counts-requires : tie.Need-put-counts-requires
+put-counts-requires c κs = search needs
+
+enum-told : tie.Need-enum-told
+enum-told c = search needs
+
+same-length : tie.Need-same-length
+same-length c = search needs
+
+returns : tie.Need-returns
+unfolding beyondLine
+returns c = rw (← (ap saysOpened (sym (c .before .before .before .before .before .beyond .given .1)) ∙ c .before .before .before .before .before .before .before .«open» .ensures)) (puts-first (c .before .before .put-counts .ensures) (omega (arith, c .before .before .before .before .before .before .before .before .before .before .pre)))
+
+returns-2 : tie.Need-returns-2
+unfolding beyondLine
+returns-2 c = rw (← (ap saysOpened (sym (c .enum-told .given .1)) ∙ c .before .before .«open» .ensures)) (holds-none (now (c .before .before .before .before .before .args .out)))
+
+pub beyond-line-spec : {M : Type 1} → statement M
+beyond-line-spec =
+    tie.close
+    (tie.spec
+    open-requires
+    enum-known-beyond
+    put-counts-requires
+    enum-told
+    same-length
+    returns
+    returns-2)

@@ -1,0 +1,64 @@
+// The fields of a text, one after the other, up to its end or the first bad one (document 01: Source text). Proved: `walk` comes to what
+// `fieldsFrom` of text/specs gives. Assumed: nothing.
+ghost use mathlib.Core.List.{[]};
+ghost use Rattle.entry.specs.Handed.{handed};
+ghost use Rattle.compile_laws.specs.Held.{Holds};
+ghost use Rattle.walk_fields.specs.Walks.{Walks};
+use edition::Edition;
+use text::Judged;
+use text::Line;
+use text::TextRefusal;
+
+// What the fields of a text come to.
+pub enum Walked {
+    Done,
+    // a refusal, and the field's first byte
+    Refused(TextRefusal, usize),
+}
+
+// Keeps what the fields from the place past a comma on say, up to the text's end or the first bad field.
+pub fn walk(
+    text: &[u8],
+    at: usize,
+    edition: Edition,
+    boolean_kinds: &mut [u8],
+    number_kinds: &mut [u8],
+    number_values: &mut [u32],
+    string_kinds: &mut [u8],
+    string_starts: &mut [usize],
+    string_lengths: &mut [usize],
+) -> Walked
+    requires { ⌜ Holds edition (handed [] (now «boolean_kinds») (now «number_kinds») (now «number_values») (now «string_kinds») (now «string_starts») (now «string_lengths») (now text)) ⌝ }
+    ensures { λ r. ⌜ Walks edition at (λ n. handed n (now («boolean_kinds» .entry)) (now («number_kinds» .entry)) (now («number_values» .entry)) (now («string_kinds» .entry)) (now («string_starts» .entry)) (now («string_lengths» .entry)) (now (text .entry))) (λ n. handed n (now («boolean_kinds» .exit)) (now («number_kinds» .exit)) (now («number_values» .exit)) (now («string_kinds» .exit)) (now («string_starts» .exit)) (now («string_lengths» .exit)) (now (text .entry))) r ⌝ }
+{
+    let mut i = at;
+    loop {
+        match text_lines::next_at(text, i) {
+            Line::End => {
+                return Walked::Done;
+            }
+            Line::Column(p) => {
+                return Walked::Refused(TextRefusal::Malformed, p);
+            }
+            Line::Indented(p) => match judge::judge(text, p, edition) {
+                Judged::Refused(why) => {
+                    return Walked::Refused(why, p);
+                }
+                Judged::Said(said, next) => {
+                    kept_states::keep(
+                        text,
+                        edition,
+                        said,
+                        boolean_kinds,
+                        number_kinds,
+                        number_values,
+                        string_kinds,
+                        string_starts,
+                        string_lengths,
+                    );
+                    i = next;
+                }
+            },
+        }
+    }
+}
