@@ -5,7 +5,7 @@ ghost use mathlib.Core.Bool.{true};
 ghost use Prim.Native.Nat.{_+_, _<_};
 ghost use lib.ListN.{length};
 ghost use Rattle.edition.specs.Edition.{okEdition};
-ghost use Rattle.base.specs.Answer.{Leaves, mapAnswer, bufferAfter};
+ghost use Rattle.base.specs.Answer.{Leaves};
 ghost use Rattle.text.specs.declared.Header.{Header};
 ghost use Rattle.text.specs.declared.Header.the-variants as Headers;
 ghost use Rattle.text.specs.Heading.{headerAt};
@@ -100,7 +100,7 @@ fn compile_in(text: &[u8], edition: Edition, buffer: &mut [u8]) -> Compiled
 
 // Writes the file of the description in a text at the buffer's start, in the first edition, or refuses and leaves the buffer as it is.
 pub fn compile(text: &[u8], buffer: &mut [u8]) -> Compiled
-    ensures { λ r. ⌜ (saysCompiled r ≡ mapAnswer length (compiling firstEdition (now (text .entry)) (length (now (buffer .entry))))) × (now (buffer .exit) ≡ bufferAfter (now (buffer .entry)) (compiling firstEdition (now (text .entry)) (length (now (buffer .entry))))) ⌝ }
+    ensures { λ r. ⌜ Leaves (compiling firstEdition (now (text .entry)) (length (now (buffer .entry)))) (now (buffer .entry)) (now (buffer .exit)) (saysCompiled r) ⌝ }
 {
     compile_in(text, names::FIRST_EDITION, buffer)
 }

@@ -7,11 +7,14 @@ use Rattle.edition.specs.declared.Edition.{Edition}
 use Rattle.entry.specs.declared.Sizes.{Sizes}
 use Rattle.entry.specs.declared.Tables.{Tables}
 use Rattle.entry.specs.declared.Beyond.{Beyond}
-use Rattle.entry.specs.Limits.{headerSize}
+use Rattle.entry.specs.Limits.{headerSize, shortWidth, numberWidth, offsetWidth}
 
--- "Header of six: 282, names size, booleans, numbers, strings, table size", shorts of two bytes, low byte first
+-- "Header of six: 282, names size, booleans, numbers, strings, table size": the i-th short, low byte first
+abbrev pub shortIn : List ℕ → ℕ → ℕ
+shortIn f i = word shortWidth f (shortWidth * i)
+
 unfoldable pub sizesOf : List ℕ → Sizes
-sizesOf f = record { names = word 2 f 2; booleans = word 2 f 4; numbers = word 2 f 6; strings = word 2 f 8; table = word 2 f 10 }
+sizesOf f = record { names = shortIn f 1; booleans = shortIn f 2; numbers = shortIn f 3; strings = shortIn f 4; table = shortIn f 5 }
 
 -- "Then names with a closing NUL; one byte per boolean"
 abbrev pub booleansAt : Sizes → ℕ
@@ -26,10 +29,10 @@ abbrev pub numbersAt : Sizes → ℕ
 numbersAt s = booleansAt s + s .booleans + padOf s
 
 abbrev pub stringsAt : Sizes → ℕ
-stringsAt s = numbersAt s + 2 * s .numbers
+stringsAt s = numbersAt s + numberWidth * s .numbers
 
 abbrev pub tableAt : Sizes → ℕ
-tableAt s = stringsAt s + 2 * s .strings
+tableAt s = stringsAt s + offsetWidth * s .strings
 
 -- "Size = 12 + names + booleans + pad + 2 x numbers + 2 x strings + table"
 abbrev pub sizeOf : Sizes → ℕ

@@ -1,4 +1,5 @@
 -- Document 01's numbers for the compiled entry, each by one name.
+-- Assumes nothing.
 use Prim.Native.Nat.{ℕ}
 
 -- the header's first short, octal 0432
@@ -13,9 +14,23 @@ headerSize = 12
 abbrev pub fileMost : ℕ
 fileMost = 4096
 
--- the most that a header's short may hold, and the largest number that a slot presents
+-- the bytes of a header's short, of a number's slot and of a string's slot
+abbrev pub shortWidth : ℕ
+shortWidth = 2
+
+abbrev pub numberWidth : ℕ
+numberWidth = 2
+
+abbrev pub offsetWidth : ℕ
+offsetWidth = 2
+
+-- the most that a header's short may hold
 abbrev pub shortMost : ℕ
 shortMost = 32767
+
+-- the largest number of a present capability
+abbrev pub numberMost : ℕ
+numberMost = 32767
 
 -- names with their NUL
 abbrev pub namesLeast : ℕ

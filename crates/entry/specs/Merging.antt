@@ -1,21 +1,18 @@
 -- Merging two compiled entries (document 01: Compiled entry; Numbers of refusal, order of merging).
 -- Assumes nothing.
 use mathlib.Core.Bool.{Bool, not}
-use mathlib.Core.List.{List, [], _∷_}
+use mathlib.Core.List.{List, []}
 use Prim.Native.Nat.{ℕ}
-use lib.Dec.{leb}
-use lib.ListN.{length}
 use Rattle.base.specs.If.{if_then_else_}
 use Rattle.base.specs.Tabulate.{tabulate}
 use Rattle.edition.specs.declared.Edition.{Edition}
 use Rattle.edition.specs.declared.Place.{Place}
 use Rattle.edition.specs.Edition.{okEdition, place}
-use Rattle.entry.specs.Limits.{fileMost}
 use Rattle.entry.specs.State.{State, absent, cancelled, present}
 use Rattle.base.specs.Answer.{Answer, refused, gives, andThen}
 use Rattle.entry.specs.Layout.{sizesOf}
 use Rattle.entry.specs.Reading.{Entry, bytesOf, reading, namesPart, booleanIn, numberIn, stringIn}
-use Rattle.entry.specs.Writing.{encode}
+use Rattle.entry.specs.Writing.{encode, fitting}
 
 -- "each state is A's unless absent, then B's"
 unfoldable pub over : {A : Type 0} → State A → State A → State A
@@ -50,6 +47,4 @@ merging e a b room =
     if not (okEdition e) then refused 3 []
     else andThen (reading a)
     (andThen (reading b)
-    (if not (leb (length (encode (merged e a b))) fileMost) then refused 9 []
-    else if not (leb (length (encode (merged e a b))) room) then refused 8 (length (encode (merged e a b)) ∷ [])
-    else gives (encode (merged e a b))))
+    (fitting room (encode (merged e a b))))

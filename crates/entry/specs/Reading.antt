@@ -17,10 +17,10 @@ use Rattle.edition.specs.Edition.{place}
 use Rattle.entry.specs.declared.Sizes.{Sizes}
 use Rattle.entry.specs.declared.Offset.{Offset}
 use Rattle.entry.specs.declared.Part.{Part}
-use Rattle.entry.specs.Limits.{magic, headerSize, fileMost, shortMost, namesLeast, namesMost}
+use Rattle.entry.specs.Limits.{magic, headerSize, fileMost, shortMost, namesLeast, namesMost, numberWidth, offsetWidth}
 use Rattle.entry.specs.State.{State, absent, mapState, half, slotOf, okSlot, okBoolean, booleanOf}
 use Rattle.base.specs.Answer.{Answer, refused, gives}
-use Rattle.entry.specs.Layout.{sizesOf, booleansAt, padOf, numbersAt, stringsAt, tableAt, sizeOf}
+use Rattle.entry.specs.Layout.{shortIn, sizesOf, booleansAt, padOf, numbersAt, stringsAt, tableAt, sizeOf}
 
 -- the bytes of a part
 abbrev pub bytesOf : List ℕ → Part → List ℕ
@@ -50,20 +50,20 @@ okPad f s = eqb (padOf s) 0 || eqb (getD f (booleansAt s + s .booleans) 0) 0
 
 -- "0 to 32,767 present; 65,535 absent; 65,534 cancelled; others refused"
 unfoldable pub okNumbers : List ℕ → Sizes → Bool
-okNumbers f s = every (λ i. okSlot 2 (λ c. ltb c (half 2)) (word 2 f (numbersAt s + 2 * i))) (s .numbers)
+okNumbers f s = every (λ i. okSlot numberWidth (λ c. ltb c (half numberWidth)) (word numberWidth f (numbersAt s + numberWidth * i))) (s .numbers)
 
 -- "an offset below the table size with a NUL at or after it in the table"
 unfoldable pub okOffset : List ℕ → Sizes → Offset → Bool
 okOffset f s o = ltb (o .0) (s .table) && ltb (nulFrom f (tableAt s + o .0) (sizeOf s)) (sizeOf s)
 
 unfoldable pub okStrings : List ℕ → Sizes → Bool
-okStrings f s = every (λ i. okSlot 2 (λ c. okOffset f s (offset c)) (word 2 f (stringsAt s + 2 * i))) (s .strings)
+okStrings f s = every (λ i. okSlot offsetWidth (λ c. okOffset f s (offset c)) (word offsetWidth f (stringsAt s + offsetWidth * i))) (s .strings)
 
 -- "1 (below 12, above 4,096), 2, 3, 1 (size), 4, 5, 6, 7"
 unfoldable pub reading : List ℕ → Answer Sizes
 reading f =
     if not (leb headerSize (length f) && leb (length f) fileMost) then refused 1 []
-    else if not (eqb (word 2 f 0) magic) then refused 2 []
+    else if not (eqb (shortIn f 0) magic) then refused 2 []
     else if not (okCounts (sizesOf f)) then refused 3 []
     else if not (eqb (length f) (sizeOf (sizesOf f))) then refused 1 []
     else if not (okNames f (sizesOf f)) then refused 4 []
@@ -86,10 +86,10 @@ unfoldable pub slotIn : ℕ → List ℕ → ℕ → ℕ → Place → State ℕ
 slotIn w f base n p = if ltb (p .0) n then slotOf w (word w f (base + w * p .0)) else absent
 
 unfoldable pub numberIn : List ℕ → Sizes → Place → State ℕ
-numberIn f s p = slotIn 2 f (numbersAt s) (s .numbers) p
+numberIn f s p = slotIn numberWidth f (numbersAt s) (s .numbers) p
 
 unfoldable pub offsetIn : List ℕ → Sizes → Place → State Offset
-offsetIn f s p = mapState offset (slotIn 2 f (stringsAt s) (s .strings) p)
+offsetIn f s p = mapState offset (slotIn offsetWidth f (stringsAt s) (s .strings) p)
 
 -- "The content runs to the first NUL"
 unfoldable pub contentAt : List ℕ → Sizes → Offset → Part

@@ -14,7 +14,7 @@ use Rattle.edition.specs.declared.Edition.{Edition}
 use Rattle.edition.specs.Edition.{okEdition}
 use Rattle.entry.specs.declared.Sizes.{Sizes}
 use Rattle.entry.specs.declared.Offset.{Offset}
-use Rattle.entry.specs.Limits.{magic, fileMost, shortMost, givenNamesMost, contentMost}
+use Rattle.entry.specs.Limits.{magic, fileMost, shortWidth, numberWidth, offsetWidth, numberMost, givenNamesMost, contentMost}
 use Rattle.entry.specs.State.{State, absent, cancelled, present, mapState, codeOf, booleanCode}
 use Rattle.base.specs.Answer.{Answer, refused, gives}
 use Rattle.entry.specs.Layout.{padOf}
@@ -55,19 +55,19 @@ padding zero = []
 padding (suc n) = 0 ∷ []
 
 abbrev pub numberCode : State ℕ → ℕ
-numberCode s = codeOf 2 s
+numberCode s = codeOf numberWidth s
 
 abbrev pub offsetCode : State Offset → ℕ
-offsetCode s = codeOf 2 (mapState (λ (o : Offset). o .0) s)
+offsetCode s = codeOf offsetWidth (mapState (λ (o : Offset). o .0) s)
 
 unfoldable pub encode : Entry → List ℕ
 encode x =
-    words 2 (header (sizesFor x))
+    words shortWidth (header (sizesFor x))
     ++ ((x .names ++ (0 ∷ []))
     ++ (map booleanCode (x .booleans)
     ++ (padding (padOf (sizesFor x))
-    ++ (words 2 (map numberCode (x .numbers))
-    ++ (words 2 (map offsetCode (offsets (offset 0) (x .strings)))
+    ++ (words numberWidth (map numberCode (x .numbers))
+    ++ (words offsetWidth (map offsetCode (offsets (offset 0) (x .strings)))
     ++ stringTable (x .strings))))))
 
 -- ---- what is handed to the writer: lists of numbers by place; strings as parts of lent bytes
@@ -131,7 +131,7 @@ isLent h i = not (eqb (getD (h .stringKinds) i 0) 1) || leb (getD (h .stringStar
 unfoldable pub numberFits : State ℕ → Bool
 numberFits absent = Bool.true
 numberFits cancelled = Bool.true
-numberFits (present n) = leb n shortMost
+numberFits (present n) = leb n numberMost
 
 unfoldable pub contentFits : State (List ℕ) → Bool
 contentFits absent = Bool.true
@@ -153,13 +153,18 @@ statesFit e h =
     && (every (numberFitsAt h) (e .numbers)
     && every (stringFitsAt h) (e .strings))
 
--- "Writing: 3, 4, 7, 13, 9, 8"; room is the buffer's length, and what is given is the file
+-- "9, 8", of every call that writes: room is the buffer's length, and what is given is the file
+abbrev pub fitting : ℕ → List ℕ → Answer (List ℕ)
+fitting room f =
+    if not (leb (length f) fileMost) then refused 9 []
+    else if not (leb (length f) room) then refused 8 (length f ∷ [])
+    else gives f
+
+-- "Writing: 3, 4, 7, 13, 9, 8"
 unfoldable pub writing : Edition → Handed → ℕ → Answer (List ℕ)
 writing e h room =
     if not (enoughStates e h) then refused 3 []
     else if not (namesFit (h .names)) then refused 4 []
     else if not (every (isLent h) (e .strings)) then refused 7 []
     else if not (statesFit e h) then refused 13 []
-    else if not (leb (length (encode (entryOf e h))) fileMost) then refused 9 []
-    else if not (leb (length (encode (entryOf e h))) room) then refused 8 (length (encode (entryOf e h)) ∷ [])
-    else gives (encode (entryOf e h))
+    else fitting room (encode (entryOf e h))

@@ -9,13 +9,26 @@ pub const HEADER_SIZE: usize = 12;
 // A file's most bytes.
 pub const FILE_MOST: usize = 4096;
 
+// The bytes of a number's slot and of a string's slot.
+pub const NUMBER_WIDTH: usize = 2;
+
+pub const OFFSET_WIDTH: usize = 2;
+
 // The most that a header's short may hold.
 pub const SHORT_MOST: usize = 32767;
+
+// The largest number of a present capability.
+pub const NUMBER_MOST: u32 = 32767;
 
 // A names size, with the NUL.
 pub const NAMES_LEAST: usize = 2;
 
 pub const NAMES_MOST: usize = 128;
+
+// The names that the writer's caller hands over, without a NUL.
+pub const GIVEN_NAMES_LEAST: usize = 1;
+
+pub const GIVEN_NAMES_MOST: usize = 127;
 
 // A string's most bytes, from the writer's caller and from text.
 pub const CONTENT_MOST: usize = 1000;

@@ -15,7 +15,7 @@ use Rattle.word.specs.Nul.{notNul, nulFrom}
 use Rattle.edition.specs.declared.Place.{Place}
 use Rattle.entry.specs.declared.Sizes.{Sizes}
 use Rattle.entry.specs.declared.Offset.{Offset}
-use Rattle.entry.specs.Limits.{magic, headerSize, fileMost, namesLeast, namesMost, givenNamesMost}
+use Rattle.entry.specs.Limits.{magic, headerSize, fileMost, namesLeast, namesMost, givenNamesMost, numberWidth, offsetWidth, shortWidth}
 use Rattle.entry.specs.State.{State, absent, cancelled, present, mapState, half}
 use Rattle.base.specs.Answer.{Answer, refused, gives}
 use Rattle.entry.specs.Layout.{sizesOf, booleansAt, numbersAt, stringsAt, tableAt, sizeOf}
@@ -27,7 +27,7 @@ use Rattle.entry_laws.specs.Slots.{Passes, slots-pass}
 pub record Accepted (f : List ℕ) : Type 0 where
   pub least : headerSize ≤ length f
   pub most : length f ≤ fileMost
-  pub magical : word 2 f 0 ≡ magic
+  pub magical : word shortWidth f 0 ≡ magic
   pub counts : okCounts (sizesOf f) ≡ true
   pub size : length f ≡ sizeOf (sizesOf f)
   pub names : okNames f (sizesOf f) ≡ true
@@ -54,9 +54,9 @@ accepted-facts f s e =
     let a₅ : Answer Sizes = if not (okNames f z) then refused 4 [] else a₆ in
     let a₄ : Answer Sizes = if not (eqb (length f) (sizeOf z)) then refused 1 [] else a₅ in
     let a₃ : Answer Sizes = if not (okCounts z) then refused 3 [] else a₄ in
-    let a₂ : Answer Sizes = if not (eqb (word 2 f 0) magic) then refused 2 [] else a₃ in
+    let a₂ : Answer Sizes = if not (eqb (word shortWidth f 0) magic) then refused 2 [] else a₃ in
     let p₁ = passed lengths 1 [] a₂ s e in
-    let p₂ = passed (eqb (word 2 f 0) magic) 2 [] a₃ s (p₁ .1) in
+    let p₂ = passed (eqb (word shortWidth f 0) magic) 2 [] a₃ s (p₁ .1) in
     let p₃ = passed (okCounts z) 3 [] a₄ s (p₂ .1) in
     let p₄ = passed (eqb (length f) (sizeOf z)) 1 [] a₅ s (p₃ .1) in
     let p₅ = passed (okNames f z) 4 [] a₆ s (p₄ .1) in
@@ -82,7 +82,7 @@ reading-accepted f a =
     rw (
       le-leb headerSize (length f) (a .least),
       le-leb (length f) fileMost (a .most),
-      eq-eqb (word 2 f 0) magic (a .magical),
+      eq-eqb (word shortWidth f 0) magic (a .magical),
       a .counts,
       eq-eqb (length f) (sizeOf (sizesOf f)) (a .size),
       a .names,
@@ -117,7 +117,7 @@ content-free f s o =
 -- contents hold no NUL, whatever the file
 pub string-free : (f : List ℕ) (s : Sizes) (p : Place) → ContentFree (stringIn f s p)
 unfolding stringIn partIn offsetIn
-string-free f s p = by-slot (slotIn 2 f (stringsAt s) (s .strings) p)
+string-free f s p = by-slot (slotIn offsetWidth f (stringsAt s) (s .strings) p)
   where
     by-slot : (t : State ℕ) → ContentFree (mapState (bytesOf f) (mapState (contentAt f s) (mapState offset t)))
     by-slot absent = tt
@@ -128,18 +128,18 @@ module _ (f : List ℕ) (a : Accepted f) where
   pub number-fits : (p : Place) → NumberFits (numberIn f (sizesOf f) p)
   unfolding numberIn okNumbers
   number-fits p =
-      by-slot (slotIn 2 f (numbersAt (sizesOf f)) (sizesOf f .numbers) p)
-      (slots-pass 2 (λ c. ltb c (half 2)) f (numbersAt (sizesOf f)) (sizesOf f .numbers) (a .numbers) p)
+      by-slot (slotIn numberWidth f (numbersAt (sizesOf f)) (sizesOf f .numbers) p)
+      (slots-pass numberWidth (λ c. ltb c (half numberWidth)) f (numbersAt (sizesOf f)) (sizesOf f .numbers) (a .numbers) p)
     where
-      by-slot : (t : State ℕ) → Passes (λ c. ltb c (half 2)) t → NumberFits t
+      by-slot : (t : State ℕ) → Passes (λ c. ltb c (half numberWidth)) t → NumberFits t
       by-slot absent h = tt
       by-slot cancelled h = tt
-      by-slot (present n) h = let l : n < half 2 = ltb-true n (half 2) h in omega arith
+      by-slot (present n) h = let l : n < half numberWidth = ltb-true n (half numberWidth) h in omega arith
 
   -- an offset that a slot presents is good
-  pub offset-fits : (p : Place) → Passes (λ c. okOffset f (sizesOf f) (offset c)) (slotIn 2 f (stringsAt (sizesOf f)) (sizesOf f .strings) p)
+  pub offset-fits : (p : Place) → Passes (λ c. okOffset f (sizesOf f) (offset c)) (slotIn offsetWidth f (stringsAt (sizesOf f)) (sizesOf f .strings) p)
   unfolding okStrings
-  offset-fits p = slots-pass 2 (λ c. okOffset f (sizesOf f) (offset c)) f (stringsAt (sizesOf f)) (sizesOf f .strings) (a .strings) p
+  offset-fits p = slots-pass offsetWidth (λ c. okOffset f (sizesOf f) (offset c)) f (stringsAt (sizesOf f)) (sizesOf f .strings) (a .strings) p
 
   pub names-length : length (bytesOf f (namesPart (sizesOf f))) ≡ sizesOf f .names - 1
   unfolding namesPart

@@ -11,7 +11,7 @@ use lib.Seq.{getD-append-add}
 use Rattle.word.specs.Word.{word, words, Below}
 use Rattle.word.proofs.WordLaws.{length-words, word-skip, word-words}
 use Rattle.entry.specs.declared.Offset.{Offset}
-use Rattle.entry.specs.Limits.{headerSize}
+use Rattle.entry.specs.Limits.{headerSize, numberWidth, offsetWidth, shortWidth}
 use Rattle.entry.specs.State.{State, absent, cancelled, present, booleanCode}
 use Rattle.entry.specs.Layout.{booleansAt, padOf, numbersAt, stringsAt, tableAt, sizeOf}
 use Rattle.entry.specs.Reading.{Entry, offset}
@@ -37,7 +37,7 @@ length-offsets o (present s ∷ xs) = ap suc (length-offsets (offset (o .0 + len
 -- ---- the parts
 
 abbrev pub headerPart : Entry → List ℕ
-headerPart x = words 2 (header (sizesFor x))
+headerPart x = words shortWidth (header (sizesFor x))
 
 abbrev pub namesWithNul : Entry → List ℕ
 namesWithNul x = x .names ++ (0 ∷ [])
@@ -69,16 +69,16 @@ abbrev pub beforeNumbers : Entry → List ℕ
 beforeNumbers x = beforePad x ++ padPart x
 
 abbrev pub beforeStrings : Entry → List ℕ
-beforeStrings x = beforeNumbers x ++ words 2 (numberCodes x)
+beforeStrings x = beforeNumbers x ++ words numberWidth (numberCodes x)
 
 abbrev pub beforeTable : Entry → List ℕ
-beforeTable x = beforeStrings x ++ words 2 (offsetCodes x)
+beforeTable x = beforeStrings x ++ words offsetWidth (offsetCodes x)
 
 abbrev pub afterNumbers : Entry → List ℕ
-afterNumbers x = words 2 (offsetCodes x) ++ tablePart x
+afterNumbers x = words offsetWidth (offsetCodes x) ++ tablePart x
 
 abbrev pub afterPad : Entry → List ℕ
-afterPad x = words 2 (numberCodes x) ++ afterNumbers x
+afterPad x = words numberWidth (numberCodes x) ++ afterNumbers x
 
 abbrev pub afterBooleans : Entry → List ℕ
 afterBooleans x = padPart x ++ afterPad x
@@ -101,10 +101,10 @@ module _ (x : Entry) where
   pub at-pad : encode x ≡ beforePad x ++ (padPart x ++ afterPad x)
   at-pad = at-header ∙ simp append-assoc
 
-  pub at-numbers : encode x ≡ beforeNumbers x ++ (words 2 (numberCodes x) ++ afterNumbers x)
+  pub at-numbers : encode x ≡ beforeNumbers x ++ (words numberWidth (numberCodes x) ++ afterNumbers x)
   at-numbers = at-header ∙ simp append-assoc
 
-  pub at-strings : encode x ≡ beforeStrings x ++ (words 2 (offsetCodes x) ++ tablePart x)
+  pub at-strings : encode x ≡ beforeStrings x ++ (words offsetWidth (offsetCodes x) ++ tablePart x)
   at-strings = at-header ∙ simp append-assoc
 
   pub at-table : encode x ≡ beforeTable x ++ tablePart x
@@ -114,7 +114,7 @@ module _ (x : Entry) where
 
   pub starts-names : length (headerPart x) ≡ headerSize
   unfolding header
-  starts-names = length-words 2 (header (sizesFor x))
+  starts-names = length-words shortWidth (header (sizesFor x))
 
   pub starts-booleans : length (beforeBooleans x) ≡ booleansAt (sizesFor x)
   unfolding sizesFor
@@ -136,12 +136,12 @@ module _ (x : Entry) where
   pub starts-strings : length (beforeStrings x) ≡ stringsAt (sizesFor x)
   unfolding sizesFor
   starts-strings =
-      rw (length-append (beforeNumbers x) (words 2 (numberCodes x)), starts-numbers, length-words 2 (numberCodes x), length-numberCodes)
+      rw (length-append (beforeNumbers x) (words numberWidth (numberCodes x)), starts-numbers, length-words numberWidth (numberCodes x), length-numberCodes)
 
   pub starts-table : length (beforeTable x) ≡ tableAt (sizesFor x)
   unfolding sizesFor
   starts-table =
-      rw (length-append (beforeStrings x) (words 2 (offsetCodes x)), starts-strings, length-words 2 (offsetCodes x), length-offsetCodes)
+      rw (length-append (beforeStrings x) (words offsetWidth (offsetCodes x)), starts-strings, length-words offsetWidth (offsetCodes x), length-offsetCodes)
 
   pub length-encode : length (encode x) ≡ sizeOf (sizesFor x)
   unfolding sizesFor

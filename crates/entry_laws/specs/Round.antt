@@ -20,7 +20,7 @@ use Rattle.edition.specs.declared.Place.{Place}
 use Rattle.edition.specs.Edition.{place}
 use Rattle.entry.specs.declared.Sizes.{Sizes}
 use Rattle.entry.specs.declared.Offset.{Offset}
-use Rattle.entry.specs.Limits.{magic, headerSize, fileMost, shortMost, namesLeast, namesMost}
+use Rattle.entry.specs.Limits.{magic, headerSize, fileMost, shortMost, namesLeast, namesMost, numberWidth, offsetWidth, shortWidth}
 use Rattle.entry.specs.State.{State, absent, cancelled, present, mapState, half, okSlot, okBoolean, booleanCode}
 use Rattle.base.specs.Answer.{gives}
 use Rattle.entry.specs.Layout.{sizesOf, booleansAt, padOf, numbersAt, stringsAt, tableAt, sizeOf}
@@ -45,22 +45,22 @@ module _ (x : Entry) (ok : Sound x) where
       (lit< tt, (omega arith, (omega arith, (omega arith, (omega arith, (omega arith, tt))))))
 
   -- short k of the header
-  header-at : (k : ℕ) → k < 6 → word 2 (encode x) (2 * k) ≡ getD (header (sizesFor x)) k 0
+  header-at : (k : ℕ) → k < 6 → word shortWidth (encode x) (shortWidth * k) ≡ getD (header (sizesFor x)) k 0
   unfolding header
-  header-at k h = rw (at-header x) (word-words 2 (header (sizesFor x)) _ k 0 header-below h)
+  header-at k h = rw (at-header x) (word-words shortWidth (header (sizesFor x)) _ k 0 header-below h)
 
-  pub magic-written : word 2 (encode x) 0 ≡ magic
+  pub magic-written : word shortWidth (encode x) 0 ≡ magic
   unfolding header
   magic-written = header-at 0 (lit< tt)
 
   pub sizes-written : sizesOf (encode x) ≡ sizesFor x
   unfolding sizesOf header
   sizes-written =
-      let a : word 2 (encode x) 2 ≡ sizesFor x .names = header-at 1 (lit< tt) in
-      let b : word 2 (encode x) 4 ≡ sizesFor x .booleans = header-at 2 (lit< tt) in
-      let c : word 2 (encode x) 6 ≡ sizesFor x .numbers = header-at 3 (lit< tt) in
-      let d : word 2 (encode x) 8 ≡ sizesFor x .strings = header-at 4 (lit< tt) in
-      let e : word 2 (encode x) 10 ≡ sizesFor x .table = header-at 5 (lit< tt) in
+      let a : word shortWidth (encode x) 2 ≡ sizesFor x .names = header-at 1 (lit< tt) in
+      let b : word shortWidth (encode x) 4 ≡ sizesFor x .booleans = header-at 2 (lit< tt) in
+      let c : word shortWidth (encode x) 6 ≡ sizesFor x .numbers = header-at 3 (lit< tt) in
+      let d : word shortWidth (encode x) 8 ≡ sizesFor x .strings = header-at 4 (lit< tt) in
+      let e : word shortWidth (encode x) 10 ≡ sizesFor x .table = header-at 5 (lit< tt) in
       λ i. record { names = a i; booleans = b i; numbers = c i; strings = d i; table = e i }
 
   counts-ok : okCounts (sizesFor x) ≡ true
@@ -136,11 +136,11 @@ number-below (absent ∷ xs) e = (tt, number-below xs (e .1))
 number-below (cancelled ∷ xs) e = (tt, number-below xs (e .1))
 number-below (present n ∷ xs) e = (let h : n ≤ shortMost = e .0 in omega arith, number-below xs (e .1))
 
-number-passes : (xs : List (State ℕ)) → Each NumberFits xs → Each (λ s. Passes (λ c. ltb c (half 2)) s) xs
+number-passes : (xs : List (State ℕ)) → Each NumberFits xs → Each (λ s. Passes (λ c. ltb c (half numberWidth)) s) xs
 number-passes [] e = tt
 number-passes (absent ∷ xs) e = (tt, number-passes xs (e .1))
 number-passes (cancelled ∷ xs) e = (tt, number-passes xs (e .1))
-number-passes (present n ∷ xs) e = (let h : n ≤ shortMost = e .0 in lt-ltb n (half 2) (omega arith), number-passes xs (e .1))
+number-passes (present n ∷ xs) e = (let h : n ≤ shortMost = e .0 in lt-ltb n (half numberWidth) (omega arith), number-passes xs (e .1))
 
 module _ (x : Entry) (ok : Sound x) where
   pub number-written : (p : Place) → numberIn (encode x) (sizesFor x) p ≡ heldNumber x p
@@ -153,7 +153,7 @@ module _ (x : Entry) (ok : Sound x) where
   unfolding okNumbers sizesFor
   numbers-ok =
       slots-ok 2 (λ s. s) (lit< tt) (x .numbers) absent (encode x) (beforeNumbers x) (afterNumbers x) (numbersAt (sizesFor x)) (at-numbers x) (starts-numbers x)
-      (number-below (x .numbers) (ok .numbersFit)) (λ c. ltb c (half 2)) (number-passes (x .numbers) (ok .numbersFit))
+      (number-below (x .numbers) (ok .numbersFit)) (λ c. ltb c (half numberWidth)) (number-passes (x .numbers) (ok .numbersFit))
 
 -- ---- strings
 
@@ -261,7 +261,7 @@ module _ (x : Entry) (ok : Sound x) where
   strings-ok : okStrings (encode x) (sizesFor x) ≡ true
   unfolding okStrings sizesFor
   strings-ok =
-      subst (λ (n : ℕ). every (λ i. okSlot 2 (λ c. okOffset (encode x) (sizesFor x) (offset c)) (word 2 (encode x) (stringsAt (sizesFor x) + 2 * i))) n ≡ true)
+      subst (λ (n : ℕ). every (λ i. okSlot offsetWidth (λ c. okOffset (encode x) (sizesFor x) (offset c)) (word offsetWidth (encode x) (stringsAt (sizesFor x) + offsetWidth * i))) n ≡ true)
       (length-offsets (offset 0) (x .strings))
       (slots-ok 2 offsetOf (lit< tt) slots absent (encode x) (beforeStrings x) (tablePart x) (stringsAt (sizesFor x)) (at-strings x) (starts-strings x) slots-below
       (λ c. okOffset (encode x) (sizesFor x) (offset c))

@@ -8,7 +8,7 @@ use lib.ListN.{length}
 use Rattle.base.specs.Tabulate.{Each}
 use Rattle.edition.specs.declared.Edition.{Edition}
 use Rattle.edition.specs.Edition.{okEdition}
-use Rattle.entry.specs.Limits.{fileMost, shortMost, givenNamesMost}
+use Rattle.entry.specs.Limits.{fileMost, numberMost, givenNamesMost}
 use Rattle.entry.specs.State.{State, absent, cancelled, present}
 use Rattle.entry.specs.Reading.{Entry, editionOf}
 use Rattle.entry.specs.Writing.{encode}
@@ -19,7 +19,7 @@ NoNul s = Each (λ b. b ≡ 0 → ⊥) s
 abbrev pub NumberFits : State ℕ → Type 0
 NumberFits absent = Unit {0}
 NumberFits cancelled = Unit {0}
-NumberFits (present n) = n ≤ shortMost
+NumberFits (present n) = n ≤ numberMost
 
 abbrev pub ContentFree : State (List ℕ) → Type 0
 ContentFree absent = Unit {0}

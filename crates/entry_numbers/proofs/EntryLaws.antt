@@ -13,7 +13,7 @@ use Rattle.edition.specs.declared.Edition.{Edition}
 use Rattle.edition.specs.declared.Place.{Place}
 use Rattle.edition.specs.Edition.{okEdition, knows}
 use Rattle.entry.specs.declared.Sizes.{Sizes}
-use Rattle.entry.specs.Limits.{magic, headerSize, fileMost}
+use Rattle.entry.specs.Limits.{magic, headerSize, fileMost, shortWidth}
 use Rattle.entry.specs.declared.Tables.{Tables}
 use Rattle.entry.specs.declared.Beyond.{Beyond}
 use Rattle.base.specs.Answer.{Answer, refused, gives, mapAnswer, isGiven, numberOf}
@@ -152,13 +152,13 @@ module _ (f : List ℕ) where
   from-3 = if not (okCounts s) then refused 3 [] else from-size
 
   abbrev from-2 : Answer Sizes
-  from-2 = if not (eqb (word 2 f 0) magic) then refused 2 [] else from-3
+  from-2 = if not (eqb (word shortWidth f 0) magic) then refused 2 [] else from-3
 
   reading-numbered : Numbered (reading f)
   unfolding reading
   reading-numbered =
       numbered-or (not (leb headerSize (length f) && leb (length f) fileMost)) 1 from-2 refl
-      (numbered-or (not (eqb (word 2 f 0) magic)) 2 from-3 refl
+      (numbered-or (not (eqb (word shortWidth f 0) magic)) 2 from-3 refl
       (numbered-or (not (okCounts s)) 3 from-size refl
       (numbered-or (not (eqb (length f) (sizeOf s))) 1 from-4 refl
       (numbered-or (not (okNames f s)) 4 from-5 refl

@@ -16,7 +16,7 @@ use Rattle.edition.specs.declared.Edition.{Edition}
 use Rattle.edition.specs.Edition.{okEdition}
 use Rattle.entry.specs.declared.Sizes.{Sizes}
 use Rattle.entry.specs.declared.Tables.{Tables}
-use Rattle.entry.specs.Limits.{magic, headerSize, fileMost, shortMost, namesLeast, namesMost}
+use Rattle.entry.specs.Limits.{magic, headerSize, fileMost, shortMost, namesLeast, namesMost, numberWidth, offsetWidth, shortWidth}
 use Rattle.entry.specs.State.{okBoolean, okSlot, half}
 use Rattle.base.specs.Answer.{Answer, refused, gives, mapAnswer}
 use Rattle.entry.specs.Layout.{sizesOf, sizeOf, tablesOf, booleansAt, numbersAt, stringsAt, tableAt}
@@ -115,10 +115,10 @@ module _ {f : List ℕ} {s : Sizes} {t : Tables} (k : Framed f s t) where
   unfolding okPad
   pad-byte h = rw (ne-eqb _ _ h, at-booleans k, in-booleans k)
 
-  pub numbers-by : (n : ℕ) → n ≡ scan (λ i. okSlot 2 (λ d. ltb d (half 2)) (word 2 f (t .«numbers_at» + 2 * i))) 0 (t .numbers) → eqb n (t .numbers) ≡ okNumbers f s
+  pub numbers-by : (n : ℕ) → n ≡ scan (λ i. okSlot numberWidth (λ d. ltb d (half numberWidth)) (word numberWidth f (t .«numbers_at» + numberWidth * i))) 0 (t .numbers) → eqb n (t .numbers) ≡ okNumbers f s
   unfolding okNumbers
   numbers-by n e =
-      ap₂ eqb (e ∙ ap₂ (λ (b m : ℕ). scan (λ i. okSlot 2 (λ d. ltb d (half 2)) (word 2 f (b + 2 * i))) 0 m) (at-numbers k) (in-numbers k)) (in-numbers k)
+      ap₂ eqb (e ∙ ap₂ (λ (b m : ℕ). scan (λ i. okSlot numberWidth (λ d. ltb d (half numberWidth)) (word numberWidth f (b + numberWidth * i))) 0 m) (at-numbers k) (in-numbers k)) (in-numbers k)
 
 -- ---- offsets that have a NUL at or after them
 
@@ -148,22 +148,22 @@ offsets-below f t k n l past last c = below-or c n before after
         (λ g. rw (le-ltb c k g, le-ltb c n h))
 
 -- slots judged by two tests that agree
-pub slot-ext : (p q : ℕ → Bool) → ((c : ℕ) → p c ≡ q c) → (c : ℕ) → okSlot 2 p c ≡ okSlot 2 q c
+pub slot-ext : (p q : ℕ → Bool) → ((c : ℕ) → p c ≡ q c) → (c : ℕ) → okSlot shortWidth p c ≡ okSlot shortWidth q c
 unfolding okSlot
 slot-ext p q h c = rw (h c)
 
 module _ {f : List ℕ} {s : Sizes} {t : Tables} (k : Framed f s t) where
   -- the string slots, judged by the end of the offsets
   pub strings-by : (n end : ℕ) → OffsetsEnd f (t .«table_at») (s .table) end
-      → n ≡ scan (λ i. okSlot 2 (λ d. ltb d end) (word 2 f (t .«strings_at» + 2 * i))) 0 (t .strings) → eqb n (t .strings) ≡ okStrings f s
+      → n ≡ scan (λ i. okSlot offsetWidth (λ d. ltb d end) (word offsetWidth f (t .«strings_at» + offsetWidth * i))) 0 (t .strings) → eqb n (t .strings) ≡ okStrings f s
   unfolding okStrings okOffset
   strings-by n end o e =
       ap₂ eqb
-      (e ∙ ap₂ (λ (b m : ℕ). scan (λ i. okSlot 2 (λ d. ltb d end) (word 2 f (b + 2 * i))) 0 m) (at-strings k) (in-strings k)
+      (e ∙ ap₂ (λ (b m : ℕ). scan (λ i. okSlot offsetWidth (λ d. ltb d end) (word offsetWidth f (b + offsetWidth * i))) 0 m) (at-strings k) (in-strings k)
       ∙ scan-ext _ _ 0 (s .strings) (λ j l r.
       slot-ext (λ d. ltb d end) (λ c. okOffset f s (offset c))
       (λ c. sym (o c) ∙ ap (λ (a : ℕ). ltb c (s .table) && ltb (nulFrom f (a + c) (a + s .table)) (a + s .table)) (at-table k))
-      (word 2 f (stringsAt s + 2 * j))))
+      (word offsetWidth f (stringsAt s + offsetWidth * j))))
       (in-strings k)
 
 -- ---- the order of refusal
@@ -178,11 +178,11 @@ module _ (f : List ℕ) where
   file-long h = rw (lt-leb (length f) fileMost h, and-false)
 
   module _ (a : headerSize ≤ length f) (b : length f ≤ fileMost) where
-    pub file-magic : (word 2 f 0 ≡ magic → ⊥) → refused 2 [] ≡ reading f
+    pub file-magic : (word shortWidth f 0 ≡ magic → ⊥) → refused 2 [] ≡ reading f
     unfolding reading
     file-magic h = rw (le-leb _ _ a, le-leb _ _ b, ne-eqb _ _ h)
 
-    module _ (m : word 2 f 0 ≡ magic) where
+    module _ (m : word shortWidth f 0 ≡ magic) where
       pub file-counts : okCounts (sizesOf f) ≡ false → refused 3 [] ≡ reading f
       unfolding reading
       file-counts h = rw (le-leb _ _ a, le-leb _ _ b, eq-eqb _ _ m, h)

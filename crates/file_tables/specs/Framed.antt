@@ -10,7 +10,7 @@ use Rattle.word.specs.Word.{word}
 use Rattle.word.specs.Nul.{nulFrom}
 use Rattle.entry.specs.declared.Sizes.{Sizes}
 use Rattle.entry.specs.declared.Tables.{Tables}
-use Rattle.entry.specs.Limits.{magic, headerSize, fileMost, namesLeast}
+use Rattle.entry.specs.Limits.{magic, headerSize, fileMost, namesLeast, shortWidth}
 use Rattle.entry.specs.Layout.{sizesOf, sizeOf, tablesOf}
 use Rattle.entry.specs.Reading.{okCounts}
 
@@ -26,7 +26,7 @@ pub record Shorts (s : Sizes) : Type 0 where
 pub record Framed (f : List ℕ) (s : Sizes) (t : Tables) : Type 0 where
   pub least : headerSize ≤ length f
   pub most : length f ≤ fileMost
-  pub magical : word 2 f 0 ≡ magic
+  pub magical : word shortWidth f 0 ≡ magic
   pub header : s ≡ sizesOf f
   pub counts : okCounts s ≡ true
   pub named : namesLeast ≤ s .names

@@ -7,6 +7,7 @@ ghost use lib.Dec.{ltb};
 ghost use lib.ListN.{length, getD};
 ghost use Rattle.base.specs.Scan.{scan};
 ghost use Rattle.word.specs.Word.{word};
+ghost use Rattle.entry.specs.Limits.{shortWidth};
 ghost use Rattle.entry.specs.State.{okBoolean, okSlot};
 ghost use Rattle.entry.specs.Reading.{okNames, okBooleans, okPad, okNumbers, okStrings};
 ghost use Rattle.file_tables.specs.Framed.{Framed, OffsetsEnd};
@@ -47,7 +48,7 @@ fn first_bad_boolean(file: &[u8], at: usize, n: usize) -> usize
 
 // A mark, or a code below the bound.
 fn slot_ok(c: usize, bound: usize) -> bool
-    ensures { λ r. ⌜ r ≡ okSlot 2 (λ d. ltb d bound) c ⌝ }
+    ensures { λ r. ⌜ r ≡ okSlot shortWidth (λ d. ltb d bound) c ⌝ }
 {
     if c < bound {
         return true;
@@ -60,8 +61,8 @@ fn slot_ok(c: usize, bound: usize) -> bool
 
 // The first bad slot of n from at on, where codes below the bound are good; n where there is none.
 fn first_bad_slot(file: &[u8], at: usize, n: usize, bound: usize) -> usize
-    requires { ⌜ at + 2 * n ≤ length (now file) ⌝ }
-    ensures { λ r. ⌜ r ≡ scan (λ i. okSlot 2 (λ d. ltb d bound) (word 2 (now (file .entry)) (at + 2 * i))) 0 n ⌝ }
+    requires { ⌜ at + shortWidth * n ≤ length (now file) ⌝ }
+    ensures { λ r. ⌜ r ≡ scan (λ i. okSlot shortWidth (λ d. ltb d bound) (word shortWidth (now (file .entry)) (at + shortWidth * i))) 0 n ⌝ }
 {
     let mut i = 0;
     while i < n {

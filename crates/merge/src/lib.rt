@@ -3,7 +3,7 @@
 ghost use mathlib.Core.Path.{_≡_};
 ghost use mathlib.Core.List.{_++_};
 ghost use lib.ListN.{length};
-ghost use Rattle.base.specs.Answer.{mapAnswer, bufferAfter};
+ghost use Rattle.base.specs.Answer.{Leaves};
 ghost use Rattle.entry.specs.Writing.{encode, entryOf};
 ghost use Rattle.entry.specs.Merging.{merging};
 ghost use Rattle.entry.specs.Says.{saysMerged};
@@ -170,7 +170,7 @@ fn merge_over(first: &[u8], t: Tables, second: &[u8], edition: Edition, buffer: 
 
 // Merges the first file over the second at the buffer's start, or refuses and leaves the buffer as it is.
 pub fn merge(first: &[u8], second: &[u8], edition: Edition, buffer: &mut [u8]) -> Merged
-    ensures { λ r. ⌜ (saysMerged r ≡ mapAnswer length (merging edition (now (first .entry)) (now (second .entry)) (length (now (buffer .entry))))) × (now (buffer .exit) ≡ bufferAfter (now (buffer .entry)) (merging edition (now (first .entry)) (now (second .entry)) (length (now (buffer .entry))))) ⌝ }
+    ensures { λ r. ⌜ Leaves (merging edition (now (first .entry)) (now (second .entry)) (length (now (buffer .entry)))) (now (buffer .entry)) (now (buffer .exit)) (saysMerged r) ⌝ }
 {
     if !edition::edition_ok(edition) {
         return Merged::Refused(FileRefusal::Counts);

@@ -32,7 +32,7 @@ use Rattle.base.specs.Answer.{Answer, refused, gives, andThen, isGiven, Leaves}
 use Rattle.entry.specs.Layout.{sizesOf, sizeOf, tablesOf, beyondOf}
 use Rattle.entry.specs.Reading.{bytesOf, reading, namesPart, partIn, stringIn, booleanIn, numberIn}
 use Rattle.entry.specs.Asking.{opening, asking, askingNames, askingBoolean, askingNumber, askingString}
-use Rattle.entry.specs.Writing.{Handed, stateOf, stringHanded, stringTable, sizesFor, encode, entryOf}
+use Rattle.entry.specs.Writing.{Handed, stateOf, stringHanded, stringTable, sizesFor, encode, entryOf, fitting}
 use Rattle.entry.specs.Merging.{over, mergedBoolean, mergedNumber, mergedString, merged, merging}
 use Rattle.entry.specs.Says.{saysBoolean, saysNumber, saysString}
 use Rattle.entry_laws.specs.Accepted.{Accepted, passed, reading-accepted, names-most}
@@ -50,7 +50,7 @@ use Rattle.write_laws.proofs.FileLaws.{length-with}
 use Rattle.merge_states.specs.declared.HandedNumber.{HandedNumber}
 use Rattle.merge_states.specs.declared.HandedString.{HandedString}
 use Rattle.merge_states.specs.Filled.{BothOpened, booleanKind, handedNumber, handedString, BooleansFilled, NumbersFilled, StringFilled, StringsFilled, mergedTable, Measured, StringsGiven, Ready}
-use Rattle.merge_states.specs.Answers.{fitting, Fitted, Merges}
+use Rattle.merge_states.specs.Answers.{Fitted, Merges}
 
 -- ---- opened files
 
@@ -385,7 +385,7 @@ module _ (e : Edition) (x y b : List ℕ) where
       (rw (z, ← q, g), rw (z, ← q, g))
 
   module _ {t u : Tables} (o : BothOpened e x t y u) where
-    merging-opened : merging e x y (length b) ≡ fitting (encode (merged e x y)) (length b)
+    merging-opened : merging e x y (length b) ≡ fitting (length b) (encode (merged e x y))
     unfolding merging
     merging-opened =
         let z = opened-edition (o .first) in

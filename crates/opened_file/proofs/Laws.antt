@@ -19,7 +19,7 @@ use Rattle.entry.specs.declared.Sizes.{Sizes}
 use Rattle.entry.specs.declared.Tables.{Tables}
 use Rattle.entry.specs.declared.Offset.{Offset}
 use Rattle.entry.specs.declared.Part.{Part}
-use Rattle.entry.specs.Limits.{headerSize, namesLeast}
+use Rattle.entry.specs.Limits.{headerSize, namesLeast, numberWidth, offsetWidth, shortWidth}
 use Rattle.entry.specs.State.{State, absent, cancelled, present, mapState, absentMark, cancelledMark, slotOf, booleanOf}
 use Rattle.base.specs.Answer.{Answer, refused, gives, mapAnswer, isGiven}
 use Rattle.entry.specs.Layout.{sizesOf, stringsAt, tableAt, sizeOf, tablesOf}
@@ -130,15 +130,15 @@ module _ {e : Edition} {f : List ℕ} {t : Tables} (o : OpenedAs e f t) where
 
   -- ---- numbers
 
-  pub asked-number : (p : Place) (x : State ℕ) → p .0 < e .numbers → x ≡ slotIn 2 f (t .«numbers_at») (t .numbers) p → gives x ≡ askingNumber e f p
+  pub asked-number : (p : Place) (x : State ℕ) → p .0 < e .numbers → x ≡ slotIn numberWidth f (t .«numbers_at») (t .numbers) p → gives x ≡ askingNumber e f p
   unfolding numberIn
-  asked-number p x h q = asked (e .numbers) p _ _ h (q ∙ ap₂ (λ (b n : ℕ). slotIn 2 f b n p) (at-numbers framed) (in-numbers framed))
+  asked-number p x h q = asked (e .numbers) p _ _ h (q ∙ ap₂ (λ (b n : ℕ). slotIn shortWidth f b n p) (at-numbers framed) (in-numbers framed))
 
   -- ---- strings
 
-  pub opened-offset : (p : Place) (x : State ℕ) → x ≡ slotIn 2 f (t .«strings_at») (t .strings) p → mapState offset x ≡ offsetIn f (sizesOf f) p
+  pub opened-offset : (p : Place) (x : State ℕ) → x ≡ slotIn offsetWidth f (t .«strings_at») (t .strings) p → mapState offset x ≡ offsetIn f (sizesOf f) p
   unfolding offsetIn
-  opened-offset p x q = ap (mapState offset) (q ∙ ap₂ (λ (b n : ℕ). slotIn 2 f b n p) (at-strings framed) (in-strings framed))
+  opened-offset p x q = ap (mapState offset) (q ∙ ap₂ (λ (b n : ℕ). slotIn shortWidth f b n p) (at-strings framed) (in-strings framed))
 
   pub opened-content : (at : Offset) (end : ℕ) → end ≡ nulFrom f (t .«table_at» + at .0) (length f)
       → record { start = t .«table_at» + at .0; length = end - (t .«table_at» + at .0) } ≡ contentAt f (sizesOf f) at
@@ -156,22 +156,22 @@ module _ {e : Edition} {f : List ℕ} {t : Tables} (o : OpenedAs e f t) where
 -- ---- slots
 
 -- a slot read inside its table
-module _ (f : List ℕ) (base n : ℕ) (p : Place) (h : p .0 < n) (c : ℕ) (r : c ≡ word 2 f (base + 2 * p .0)) where
-  slot-read : slotOf 2 c ≡ slotIn 2 f base n p
-  slot-read = ap (slotOf 2) r ∙ sym (slot-in 2 f base n p h)
+module _ (f : List ℕ) (base n : ℕ) (p : Place) (h : p .0 < n) (c : ℕ) (r : c ≡ word shortWidth f (base + shortWidth * p .0)) where
+  slot-read : slotOf shortWidth c ≡ slotIn shortWidth f base n p
+  slot-read = ap (slotOf shortWidth) r ∙ sym (slot-in shortWidth f base n p h)
 
-  pub slot-absent : c ≡ absentMark 2 → absent ≡ slotIn 2 f base n p
+  pub slot-absent : c ≡ absentMark shortWidth → absent ≡ slotIn shortWidth f base n p
   unfolding slotOf
-  slot-absent a = rw (← slot-read, eq-eqb c (absentMark 2) a)
+  slot-absent a = rw (← slot-read, eq-eqb c (absentMark shortWidth) a)
 
-  module _ (a : c ≡ absentMark 2 → ⊥) where
-    pub slot-cancelled : c ≡ cancelledMark 2 → cancelled ≡ slotIn 2 f base n p
+  module _ (a : c ≡ absentMark shortWidth → ⊥) where
+    pub slot-cancelled : c ≡ cancelledMark shortWidth → cancelled ≡ slotIn shortWidth f base n p
     unfolding slotOf
-    slot-cancelled b = rw (← slot-read, ne-eqb c (absentMark 2) a, eq-eqb c (cancelledMark 2) b)
+    slot-cancelled b = rw (← slot-read, ne-eqb c (absentMark shortWidth) a, eq-eqb c (cancelledMark shortWidth) b)
 
-    pub slot-present : (c ≡ cancelledMark 2 → ⊥) → present c ≡ slotIn 2 f base n p
+    pub slot-present : (c ≡ cancelledMark shortWidth → ⊥) → present c ≡ slotIn shortWidth f base n p
     unfolding slotOf
-    slot-present b = rw (← slot-read, ne-eqb c (absentMark 2) a, ne-eqb c (cancelledMark 2) b)
+    slot-present b = rw (← slot-read, ne-eqb c (absentMark shortWidth) a, ne-eqb c (cancelledMark shortWidth) b)
 
 -- ---- parts that are given lie in the file
 
@@ -207,7 +207,7 @@ string-inside e f p q g =
     let a = opened-accepted e f (o .0) in
     let l : length f ≡ sizeOf (sizesOf f) = a .size in
     let i : q .start + q .length ≤ sizeOf (sizesOf f) =
-    subst (PartFits (sizeOf (sizesOf f))) (sym (o .1)) (by-slot (slotIn 2 f (stringsAt (sizesOf f)) (sizesOf f .strings) p) (offset-fits f a p)) in
+    subst (PartFits (sizeOf (sizesOf f))) (sym (o .1)) (by-slot (slotIn offsetWidth f (stringsAt (sizesOf f)) (sizesOf f .strings) p) (offset-fits f a p)) in
     omega arith
   where
     by-slot : (x : State ℕ) → Passes (λ c. okOffset f (sizesOf f) (offset c)) x

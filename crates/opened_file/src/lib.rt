@@ -3,6 +3,7 @@
 ghost use mathlib.Core.Path.{_≡_};
 ghost use Prim.Native.Nat.{_+_, _*_, _<_, _≤_};
 ghost use lib.ListN.{length};
+ghost use Rattle.entry.specs.Limits.{shortWidth};
 ghost use Rattle.entry.specs.State.{booleanOf};
 ghost use Rattle.base.specs.Answer.{gives};
 ghost use Rattle.entry.specs.Layout.{sizesOf};
@@ -77,8 +78,8 @@ pub fn boolean_opened(file: &[u8], edition: Edition, t: Tables, place: Place) ->
 
 // The slot at a place of a table of n slots from at on; absent past the table.
 fn slot_at(file: &[u8], at: usize, n: usize, place: Place) -> Slot
-    requires { ⌜ at + 2 * n ≤ length (now file) ⌝ }
-    ensures { λ r. ⌜ (saysSlot r ≡ slotIn 2 (now (file .entry)) at n place) × CodeFits r ⌝ }
+    requires { ⌜ at + shortWidth * n ≤ length (now file) ⌝ }
+    ensures { λ r. ⌜ (saysSlot r ≡ slotIn shortWidth (now (file .entry)) at n place) × CodeFits r ⌝ }
 {
     if n <= place.0 {
         return Slot::Absent;

@@ -15,6 +15,7 @@ use Rattle.base.specs.Tabulate.{tabulate, length-tabulate, tabulate-more, map-a
 use Rattle.base.specs.Overwrite.{putAt, put-run, put-store}
 use Rattle.word.specs.Word.{bytes, words}
 use Rattle.word.proofs.WordLaws.{length-bytes, length-words, words-append, words-one}
+use Rattle.entry.specs.Limits.{shortWidth}
 use Rattle.entry.specs.declared.Offset.{Offset}
 use Rattle.entry.specs.State.{State, absent, cancelled, present, mapState, codeOf}
 use Rattle.entry.specs.Reading.{offset}
@@ -44,8 +45,8 @@ map-const g z cancelled = refl
 map-const g z (present x) = refl
 
 -- the slot's code is the same, by a bare number or by an offset
-pub offset-code : (k : ℕ) (o : Offset) → codeOf 2 (stateOf k (o .0)) ≡ offsetCode (stateOf k o)
-offset-code k o = sym (ap (codeOf 2) (map-stateOf (λ (p : Offset). p .0) k o))
+pub offset-code : (k : ℕ) (o : Offset) → codeOf shortWidth (stateOf k (o .0)) ≡ offsetCode (stateOf k o)
+offset-code k o = sym (ap (codeOf shortWidth) (map-stateOf (λ (p : Offset). p .0) k o))
 
 -- ---- table bytes by kind
 
@@ -180,8 +181,8 @@ module _ {A : Type 0} (code : A → ℕ) (g : ℕ → A) where
   pub length-codes : (i : ℕ) → length (map code (tabulate g i)) ≡ i
   length-codes i = length-map (tabulate g i) code ∙ length-tabulate g i
 
-  pub length-shorts : (i : ℕ) → length (words 2 (map code (tabulate g i))) ≡ 2 * i
-  length-shorts i = length-words 2 (map code (tabulate g i)) ∙ ap (λ (k : ℕ). 2 * k) (length-codes i)
+  pub length-shorts : (i : ℕ) → length (words shortWidth (map code (tabulate g i))) ≡ shortWidth * i
+  length-shorts i = length-words shortWidth (map code (tabulate g i)) ∙ ap (λ (k : ℕ). shortWidth * k) (length-codes i)
 
   -- a code stored as a byte
   pub byte-turn : (b₀ b : List ℕ) (at i n c : ℕ) → at + n ≤ length b₀ → i < n → b ≡ putAt b₀ at (map code (tabulate g i)) → c ≡ code (g i)
@@ -191,14 +192,14 @@ module _ {A : Type 0} (code : A → ℕ) (g : ℕ → A) where
       put-store b₀ b at (at + i) c (map code (tabulate g i)) (map code (tabulate g (i + 1))) e (omega arith) (rw q (codes-more i)) (omega arith)
 
   -- a code put as a short
-  pub short-turn : (b₀ b : List ℕ) (at i n c : ℕ) → at + 2 * n ≤ length b₀ → i < n → b ≡ putAt b₀ at (words 2 (map code (tabulate g i))) → c ≡ code (g i)
-      → putAt b (at + 2 * i) (bytes 2 c) ≡ putAt b₀ at (words 2 (map code (tabulate g (i + 1))))
+  pub short-turn : (b₀ b : List ℕ) (at i n c : ℕ) → at + shortWidth * n ≤ length b₀ → i < n → b ≡ putAt b₀ at (words shortWidth (map code (tabulate g i))) → c ≡ code (g i)
+      → putAt b (at + shortWidth * i) (bytes shortWidth c) ≡ putAt b₀ at (words shortWidth (map code (tabulate g (i + 1))))
   short-turn b₀ b at i n c f h e q =
       let done : List ℕ = map code (tabulate g i) in
       let l = length-shorts i in
-      let m : words 2 (map code (tabulate g (i + 1))) ≡ words 2 done ++ bytes 2 c =
-      ap (words 2) (codes-more i) ∙ words-append 2 done (code (g i) ∷ []) ∙ rw (words-one, q) in
-      put-run b₀ b at (at + 2 * i) (words 2 done) (bytes 2 c) (words 2 (map code (tabulate g (i + 1)))) e (omega arith) m (rw length-bytes (omega arith))
+      let m : words shortWidth (map code (tabulate g (i + 1))) ≡ words shortWidth done ++ bytes shortWidth c =
+      ap (words shortWidth) (codes-more i) ∙ words-append shortWidth done (code (g i) ∷ []) ∙ rw (words-one, q) in
+      put-run b₀ b at (at + shortWidth * i) (words shortWidth done) (bytes shortWidth c) (words shortWidth (map code (tabulate g (i + 1)))) e (omega arith) m (rw length-bytes (omega arith))
 
 -- a string's part put by a call
 pub string-turn : (kinds lengths : List ℕ) (g : ℕ → State (List ℕ)) (b₀ b : List ℕ) (at p i n : ℕ) → Described kinds lengths g n → at + total kinds lengths n ≤ length b₀
@@ -211,11 +212,11 @@ string-turn kinds lengths g b₀ b at p i n d f h q e =
     put-run b₀ b at p (stringTable (tabulate g i)) (stringTable (g i ∷ [])) (stringTable (tabulate g (i + 1))) e (omega arith) (strings-more g i) (omega arith)
 
 -- one short more behind the shorts xs at the front
-pub put-front-short : (b₀ b : List ℕ) (p x : ℕ) (xs : List ℕ) → b ≡ putAt b₀ 0 (words 2 xs) → p ≡ 2 * length xs → p + 2 ≤ length b₀
-    → putAt b p (bytes 2 x) ≡ putAt b₀ 0 (words 2 (xs ++ (x ∷ [])))
+pub put-front-short : (b₀ b : List ℕ) (p x : ℕ) (xs : List ℕ) → b ≡ putAt b₀ 0 (words shortWidth xs) → p ≡ 2 * length xs → p + 2 ≤ length b₀
+    → putAt b p (bytes shortWidth x) ≡ putAt b₀ 0 (words shortWidth (xs ++ (x ∷ [])))
 put-front-short b₀ b p x xs e q h =
-    let l = length-words 2 xs in
-    put-run b₀ b 0 p (words 2 xs) (bytes 2 x) (words 2 (xs ++ (x ∷ []))) e (omega arith) (words-append 2 xs (x ∷ []) ∙ rw words-one) (rw length-bytes (omega arith))
+    let l = length-words shortWidth xs in
+    put-run b₀ b 0 p (words shortWidth xs) (bytes shortWidth x) (words shortWidth (xs ++ (x ∷ []))) e (omega arith) (words-append shortWidth xs (x ∷ []) ∙ rw words-one) (rw length-bytes (omega arith))
 
 pub padding-one : (n : ℕ) → (n ≡ 0 → ⊥) → padding n ≡ 0 ∷ []
 unfolding padding

@@ -6,6 +6,7 @@ ghost use Prim.Native.Nat.{_+_, _*_, _<_, _≤_, _^_};
 ghost use lib.ListN.{length};
 ghost use Rattle.base.specs.Overwrite.{putAt};
 ghost use Rattle.word.specs.Word.{bytes, words};
+ghost use Rattle.entry.specs.Limits.{numberWidth, offsetWidth, shortWidth};
 ghost use Rattle.entry.specs.State.{booleanCode, codeOf};
 ghost use Rattle.entry.specs.Writing.{header, padding, numberCode, offsetCode, stringTable, stateOf};
 ghost use Rattle.put.specs.Table.{booleansOf, numbersOf, slotsOf, stringOf, stringsOf, tableBytes, total, InPools, TableFits};
@@ -14,6 +15,8 @@ use entry::ABSENT_MARK;
 use entry::CANCELLED_BYTE;
 use entry::CANCELLED_MARK;
 use entry::MAGIC;
+use entry::NUMBER_WIDTH;
+use entry::OFFSET_WIDTH;
 use entry::Offset;
 use entry::PRESENT;
 use entry::Sizes;
@@ -26,7 +29,7 @@ const PRESENT_BYTE: u8 = 1;
 // The header.
 pub fn put_header(b: &mut [u8], s: Sizes)
     requires { ⌜ 12 ≤ length (now b) ⌝ }
-    ensures { λ _. ⌜ now (b .exit) ≡ putAt (now (b .entry)) 0 (words 2 (header s)) ⌝ }
+    ensures { λ _. ⌜ now (b .exit) ≡ putAt (now (b .entry)) 0 (words shortWidth (header s)) ⌝ }
 {
     word::put_short(b, 0, MAGIC);
     word::put_short(b, 2, s.names);
@@ -94,7 +97,7 @@ pub fn put_booleans(b: &mut [u8], at: usize, kinds: &[u8], n: usize)
 
 // The slot of a state of a kind, where code is a present one's.
 pub fn slot_code(kind: u8, code: usize) -> usize
-    ensures { λ r. ⌜ r ≡ codeOf 2 (stateOf kind code) ⌝ }
+    ensures { λ r. ⌜ r ≡ codeOf shortWidth (stateOf kind code) ⌝ }
 {
     if kind == ABSENT {
         return ABSENT_MARK;
@@ -107,13 +110,13 @@ pub fn slot_code(kind: u8, code: usize) -> usize
 
 // The slots of the first n numbers.
 pub fn put_numbers(b: &mut [u8], at: usize, kinds: &[u8], values: &[u32], n: usize)
-    requires { ⌜ (at + 2 * n ≤ length (now b)) × ((n ≤ length (now kinds)) × (n ≤ length (now values))) ⌝ }
-    ensures { λ _. ⌜ now (b .exit) ≡ putAt (now (b .entry)) at (words 2 (map numberCode (numbersOf (now (kinds .entry)) (now (values .entry)) n))) ⌝ }
+    requires { ⌜ (at + shortWidth * n ≤ length (now b)) × ((n ≤ length (now kinds)) × (n ≤ length (now values))) ⌝ }
+    ensures { λ _. ⌜ now (b .exit) ≡ putAt (now (b .entry)) at (words numberWidth (map numberCode (numbersOf (now (kinds .entry)) (now (values .entry)) n))) ⌝ }
 {
     let mut i = 0;
     while i < n {
         let code = slot_code(kinds[i], values[i] as usize);
-        word::put_short(b, at + 2 * i, code);
+        word::put_short(b, at + NUMBER_WIDTH * i, code);
         i += 1;
     }
 }
@@ -121,7 +124,7 @@ pub fn put_numbers(b: &mut [u8], at: usize, kinds: &[u8], values: &[u32], n: usi
 // The slot of a string of a kind; a present one's content starts at o.
 pub fn put_slot(b: &mut [u8], at: usize, kind: u8, o: Offset)
     requires { ⌜ at + 2 ≤ length (now b) ⌝ }
-    ensures { λ _. ⌜ now (b .exit) ≡ putAt (now (b .entry)) at (bytes 2 (offsetCode (stateOf kind o))) ⌝ }
+    ensures { λ _. ⌜ now (b .exit) ≡ putAt (now (b .entry)) at (bytes shortWidth (offsetCode (stateOf kind o))) ⌝ }
 {
     let code = slot_code(kind, o.0);
     word::put_short(b, at, code);
@@ -154,14 +157,14 @@ pub fn table_size(kinds: &[u8], lengths: &[usize], n: usize) -> usize
 
 // The slots of the first n strings.
 pub fn put_slots(b: &mut [u8], at: usize, kinds: &[u8], lengths: &[usize], n: usize)
-    requires { ⌜ (at + 2 * n ≤ length (now b)) × ((n ≤ length (now kinds)) × ((n ≤ length (now lengths)) × (total (now kinds) (now lengths) n < 2 ^ 64))) ⌝ }
-    ensures { λ _. ⌜ now (b .exit) ≡ putAt (now (b .entry)) at (words 2 (map offsetCode (slotsOf (now (kinds .entry)) (now (lengths .entry)) n))) ⌝ }
+    requires { ⌜ (at + shortWidth * n ≤ length (now b)) × ((n ≤ length (now kinds)) × ((n ≤ length (now lengths)) × (total (now kinds) (now lengths) n < 2 ^ 64))) ⌝ }
+    ensures { λ _. ⌜ now (b .exit) ≡ putAt (now (b .entry)) at (words offsetWidth (map offsetCode (slotsOf (now (kinds .entry)) (now (lengths .entry)) n))) ⌝ }
 {
     let mut next = 0;
     let mut i = 0;
     while i < n {
         let kind = kinds[i];
-        put_slot(b, at + 2 * i, kind, Offset(next));
+        put_slot(b, at + OFFSET_WIDTH * i, kind, Offset(next));
         next += bytes_in_table(kind, lengths[i]);
         i += 1;
     }

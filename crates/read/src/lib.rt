@@ -19,6 +19,8 @@ use entry::Judged;
 use entry::MAGIC;
 use entry::NAMES_LEAST;
 use entry::NAMES_MOST;
+use entry::NUMBER_WIDTH;
+use entry::OFFSET_WIDTH;
 use entry::Opened;
 use entry::SHORT_MOST;
 use entry::Sizes;
@@ -71,8 +73,8 @@ pub fn tables_for(s: Sizes) -> Tables
 {
     let booleans_at = HEADER_SIZE + s.names;
     let numbers_at = booleans_at + s.booleans + (s.names + s.booleans) % 2;
-    let strings_at = numbers_at + 2 * s.numbers;
-    let table_at = strings_at + 2 * s.strings;
+    let strings_at = numbers_at + NUMBER_WIDTH * s.numbers;
+    let table_at = strings_at + OFFSET_WIDTH * s.strings;
     Tables {
         booleans: s.booleans,
         numbers: s.numbers,

@@ -25,7 +25,7 @@ use Rattle.entry.specs.declared.Written.the-variants as W
 use Rattle.entry.specs.declared.Merged.{Merged}
 use Rattle.entry.specs.declared.Merged.the-variants as G
 use Rattle.entry.specs.declared.Sizes.{Sizes}
-use Rattle.entry.specs.Limits.{magic, headerSize, fileMost}
+use Rattle.entry.specs.Limits.{magic, headerSize, fileMost, shortWidth}
 use Rattle.entry.specs.State.{present}
 use Rattle.base.specs.Answer.{Answer, refused, gives, mapAnswer, andThen, isGiven}
 use Rattle.entry.specs.Layout.{sizesOf, sizeOf}
@@ -200,7 +200,7 @@ unfolding reading
 reading-no-room f =
     let s : Sizes = sizesOf f in
     no-room-if (leb headerSize (length f) && leb (length f) fileMost) 1 _ (λ q. omega arith)
-    (no-room-if (eqb (word 2 f 0) magic) 2 _ (λ q. omega arith)
+    (no-room-if (eqb (word shortWidth f 0) magic) 2 _ (λ q. omega arith)
     (no-room-if (okCounts s) 3 _ (λ q. omega arith)
     (no-room-if (eqb (length f) (sizeOf s)) 1 _ (λ q. omega arith)
     (no-room-if (okNames f s) 4 _ (λ q. omega arith)

@@ -18,7 +18,7 @@ ghost use Rattle.entry.specs.Handed.{handed, stringsHanded};
 ghost use Rattle.compile_laws.specs.Held.{textString, textEntry, Holds, TableFits};
 use edition::Edition;
 use entry::FILE_MOST;
-use entry::NAMES_MOST;
+use entry::GIVEN_NAMES_MOST;
 use entry::PRESENT;
 use text::Compiled;
 use text::TextRefusal;
@@ -75,7 +75,7 @@ pub fn write(
     requires { ⌜ (okEdition edition ≡ true) × Holds edition (handed (now names) (now «boolean_kinds») (now «number_kinds») (now «number_values») (now «string_kinds») (now «string_starts») (now «string_lengths») (now text)) ⌝ }
     ensures { λ r. ⌜ Leaves (fitting (length (now (buffer .entry))) (textEntry edition (handed (now (names .entry)) (now («boolean_kinds» .entry)) (now («number_kinds» .entry)) (now («number_values» .entry)) (now («string_kinds» .entry)) (now («string_starts» .entry)) (now («string_lengths» .entry)) (now (text .entry))))) (now (buffer .entry)) (now (buffer .exit)) (saysCompiled r) ⌝ }
 {
-    if NAMES_MOST <= names.len() {
+    if GIVEN_NAMES_MOST < names.len() {
         return Compiled::Refused(TextRefusal::Limit, 0);
     }
     let s = write_file::sizes(edition, names, string_kinds, string_lengths);

@@ -2,7 +2,7 @@
 // `writing` of entry/specs says, and a refusal leaves the buffer as it was. Assumed: nothing.
 ghost use mathlib.Core.Path.{_≡_};
 ghost use lib.ListN.{length};
-ghost use Rattle.base.specs.Answer.{mapAnswer, bufferAfter};
+ghost use Rattle.base.specs.Answer.{Leaves};
 ghost use Rattle.entry.specs.Writing.{writing};
 ghost use Rattle.entry.specs.Says.{saysWritten};
 ghost use Rattle.entry.specs.Handed.{handed};
@@ -79,7 +79,7 @@ pub fn write(
     lent: &[u8],
     buffer: &mut [u8],
 ) -> Written
-    ensures { λ r. ⌜ (saysWritten r ≡ mapAnswer length (writing edition (handed (now (names .entry)) (now («boolean_kinds» .entry)) (now («number_kinds» .entry)) (now («number_values» .entry)) (now («string_kinds» .entry)) (now («string_starts» .entry)) (now («string_lengths» .entry)) (now (lent .entry))) (length (now (buffer .entry))))) × (now (buffer .exit) ≡ bufferAfter (now (buffer .entry)) (writing edition (handed (now (names .entry)) (now («boolean_kinds» .entry)) (now («number_kinds» .entry)) (now («number_values» .entry)) (now («string_kinds» .entry)) (now («string_starts» .entry)) (now («string_lengths» .entry)) (now (lent .entry))) (length (now (buffer .entry))))) ⌝ }
+    ensures { λ r. ⌜ Leaves (writing edition (handed (now (names .entry)) (now («boolean_kinds» .entry)) (now («number_kinds» .entry)) (now («number_values» .entry)) (now («string_kinds» .entry)) (now («string_starts» .entry)) (now («string_lengths» .entry)) (now (lent .entry))) (length (now (buffer .entry)))) (now (buffer .entry)) (now (buffer .exit)) (saysWritten r) ⌝ }
 {
     if !write_limits::enough_states(
         edition,

@@ -12,6 +12,8 @@ ghost use Rattle.entry.specs.Handed.{handed, frontHanded};
 ghost use Rattle.write_laws.specs.File.{sizesWith, sizesHanded, head, slots, front, HeadFits, SlotsFit, FrontFits, Sure};
 use edition::Edition;
 use entry::HEADER_SIZE;
+use entry::NUMBER_WIDTH;
+use entry::OFFSET_WIDTH;
 use entry::Sizes;
 
 // The header's sizes, with a string table of so many bytes.
@@ -49,7 +51,7 @@ pub fn table_at(s: Sizes) -> usize
     requires { ⌜ sizeOf s < 2 ^ 64 ⌝ }
     ensures { λ r. ⌜ r ≡ tableAt s ⌝ }
 {
-    numbers_at(s) + 2 * s.numbers + 2 * s.strings
+    numbers_at(s) + NUMBER_WIDTH * s.numbers + OFFSET_WIDTH * s.strings
 }
 
 // The file's length.
@@ -88,7 +90,7 @@ fn put_slots(
     put::put_numbers(b, at, number_kinds, number_values, s.numbers);
     put::put_slots(
         b,
-        at + 2 * s.numbers,
+        at + NUMBER_WIDTH * s.numbers,
         string_kinds,
         string_lengths,
         s.strings,

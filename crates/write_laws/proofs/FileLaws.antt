@@ -12,7 +12,7 @@ use Rattle.word.proofs.WordLaws.{length-words}
 use Rattle.edition.specs.declared.Edition.{Edition}
 use Rattle.entry.specs.declared.Sizes.{Sizes}
 use Rattle.entry.specs.declared.Offset.{Offset}
-use Rattle.entry.specs.Limits.{fileMost}
+use Rattle.entry.specs.Limits.{fileMost, numberWidth, offsetWidth, shortWidth}
 use Rattle.entry.specs.State.{State, booleanCode}
 use Rattle.entry.specs.Layout.{padOf, booleansAt, numbersAt, tableAt, sizeOf}
 use Rattle.entry.specs.Writing.{Handed, header, padding, numberCode, offsetCode, stringTable, sizesFor, encode}
@@ -27,9 +27,9 @@ use Rattle.write_laws.specs.File.{sizesHanded, entryWith, head, slots, f
 -- what stands before the string table, its sizes and its string slots apart
 frontOf : Sizes → List (State Offset) → Edition → Handed → List ℕ
 frontOf s os e h =
-    ((((words 2 (header s) ++ (h .names ++ (0 ∷ []))) ++ map booleanCode (booleansOf (h .booleanKinds) (e .booleans))) ++ padding (padOf s))
-    ++ words 2 (map numberCode (numbersOf (h .numberKinds) (h .numberValues) (e .numbers))))
-    ++ words 2 (map offsetCode os)
+    ((((words shortWidth (header s) ++ (h .names ++ (0 ∷ []))) ++ map booleanCode (booleansOf (h .booleanKinds) (e .booleans))) ++ padding (padOf s))
+    ++ words numberWidth (map numberCode (numbersOf (h .numberKinds) (h .numberValues) (e .numbers))))
+    ++ words offsetWidth (map offsetCode os)
 
 module _ (e : Edition) (h : Handed) (g : ℕ → State (List ℕ)) (d : Described (h .stringKinds) (h .stringLengths) g (e .strings)) where
   pub sizes-with : sizesFor (entryWith e h g) ≡ sizesHanded e h
@@ -45,7 +45,7 @@ module _ (e : Edition) (h : Handed) (g : ℕ → State (List ℕ)) (d : Describe
   unfolding head slots frontOf
   front-with =
       ap₂ (λ (s : Sizes) (os : List (State Offset)). frontOf s os e h) sizes-with (offsets-total (h .stringKinds) (h .stringLengths) g (e .strings) d)
-      ∙ append-assoc (head (sizesHanded e h) h) (words 2 (map numberCode (numbersOf (h .numberKinds) (h .numberValues) (e .numbers)))) (words 2 (map offsetCode (slotsOf (h .stringKinds) (h .stringLengths) (e .strings))))
+      ∙ append-assoc (head (sizesHanded e h) h) (words numberWidth (map numberCode (numbersOf (h .numberKinds) (h .numberValues) (e .numbers)))) (words offsetWidth (map offsetCode (slotsOf (h .stringKinds) (h .stringLengths) (e .strings))))
 
   pub encode-with : encode (entryWith e h g) ≡ front (sizesHanded e h) h ++ stringTable (tabulate g (e .strings))
   encode-with = at-table (entryWith e h g) ∙ ap (λ (f : List ℕ). f ++ stringTable (tabulate g (e .strings))) front-with
@@ -56,26 +56,26 @@ module _ (e : Edition) (h : Handed) (g : ℕ → State (List ℕ)) (d : Describe
 -- ---- lengths of the parts
 
 module _ (s : Sizes) (h : Handed) (m : s .names ≡ length (h .names) + 1) where
-  length-named : length (words 2 (header s) ++ (h .names ++ (0 ∷ []))) ≡ booleansAt s
+  length-named : length (words shortWidth (header s) ++ (h .names ++ (0 ∷ []))) ≡ booleansAt s
   unfolding header
   length-named =
-      let l : length (words 2 (header s)) ≡ 12 = length-words 2 (header s) in
+      let l : length (words shortWidth (header s)) ≡ 12 = length-words shortWidth (header s) in
       simp (length-append, l) (omega arith)
 
-  length-unpadded : length ((words 2 (header s) ++ (h .names ++ (0 ∷ []))) ++ map booleanCode (booleansOf (h .booleanKinds) (s .booleans))) ≡ booleansAt s + s .booleans
+  length-unpadded : length ((words shortWidth (header s) ++ (h .names ++ (0 ∷ []))) ++ map booleanCode (booleansOf (h .booleanKinds) (s .booleans))) ≡ booleansAt s + s .booleans
   length-unpadded =
-      rw (length-append (words 2 (header s) ++ (h .names ++ (0 ∷ []))) (map booleanCode (booleansOf (h .booleanKinds) (s .booleans))), length-named, length-codes)
+      rw (length-append (words shortWidth (header s) ++ (h .names ++ (0 ∷ []))) (map booleanCode (booleansOf (h .booleanKinds) (s .booleans))), length-named, length-codes)
 
   length-head : length (head s h) ≡ numbersAt s
   unfolding head
   length-head =
       let p : length (padding (padOf s)) ≡ padOf s = length-padding (s .names + s .booleans) in
-      rw (length-append ((words 2 (header s) ++ (h .names ++ (0 ∷ []))) ++ map booleanCode (booleansOf (h .booleanKinds) (s .booleans))) (padding (padOf s)), length-unpadded, p)
+      rw (length-append ((words shortWidth (header s) ++ (h .names ++ (0 ∷ []))) ++ map booleanCode (booleansOf (h .booleanKinds) (s .booleans))) (padding (padOf s)), length-unpadded, p)
 
-  length-all-slots : length (slots s h) ≡ 2 * s .numbers + 2 * s .strings
+  length-all-slots : length (slots s h) ≡ numberWidth * s .numbers + offsetWidth * s .strings
   unfolding slots
   length-all-slots =
-      rw (length-append (words 2 (map numberCode (numbersOf (h .numberKinds) (h .numberValues) (s .numbers)))) (words 2 (map offsetCode (slotsOf (h .stringKinds) (h .stringLengths) (s .strings)))))
+      rw (length-append (words numberWidth (map numberCode (numbersOf (h .numberKinds) (h .numberValues) (s .numbers)))) (words offsetWidth (map offsetCode (slotsOf (h .stringKinds) (h .stringLengths) (s .strings)))))
       (simp length-shorts)
 
   pub length-front : length (front s h) ≡ tableAt s
@@ -87,14 +87,14 @@ module _ (s : Sizes) (h : Handed) (m : s .names ≡ length (h .names) + 1) where
   -- ---- the parts put one behind the other: b₀ is the buffer at first, and each next one is it after a call
 
   pub head-put : (b₀ b₁ b₂ b₃ b₄ : List ℕ) {q₃ q₄ : ℕ} → sizeOf s ≤ length b₀ → q₃ ≡ booleansAt s → q₄ ≡ booleansAt s + s .booleans
-      → b₁ ≡ putAt b₀ 0 (words 2 (header s)) → b₂ ≡ putAt b₁ 12 (h .names ++ (0 ∷ [])) → b₃ ≡ putAt b₂ q₃ (map booleanCode (booleansOf (h .booleanKinds) (s .booleans)))
+      → b₁ ≡ putAt b₀ 0 (words shortWidth (header s)) → b₂ ≡ putAt b₁ 12 (h .names ++ (0 ∷ [])) → b₃ ≡ putAt b₂ q₃ (map booleanCode (booleansOf (h .booleanKinds) (s .booleans)))
       → b₄ ≡ putAt b₃ q₄ (padding (padOf s)) → b₄ ≡ putAt b₀ 0 (head s h)
   unfolding head header
   head-put b₀ b₁ b₂ b₃ b₄ r w₃ w₄ e₁ e₂ e₃ e₄ =
-      let a : List ℕ = words 2 (header s) in
+      let a : List ℕ = words shortWidth (header s) in
       let n : List ℕ = h .names ++ (0 ∷ []) in
       let g : List ℕ = map booleanCode (booleansOf (h .booleanKinds) (s .booleans)) in
-      let al : length a ≡ 12 = length-words 2 (header s) in
+      let al : length a ≡ 12 = length-words shortWidth (header s) in
       let nl : length n ≡ length (h .names) + 1 = length-append (h .names) (0 ∷ []) in
       let gl : length g ≡ s .booleans = length-codes _ _ _ in
       let pl : length (padding (padOf s)) ≡ padOf s = length-padding (s .names + s .booleans) in
@@ -111,17 +111,17 @@ module _ (s : Sizes) (h : Handed) (m : s .names ≡ length (h .names) + 1) where
       let k = length-all-slots in
       e₂ ∙ put-run b₀ b₁ 0 _ (head s h) (slots s h) (front s h) e₁ (omega arith) refl (omega arith)
 
-pub slots-put : (s : Sizes) (h : Handed) (b₀ b₁ b₂ : List ℕ) (at : ℕ) → at + 2 * s .numbers + 2 * s .strings ≤ length b₀
-    → b₁ ≡ putAt b₀ at (words 2 (map numberCode (numbersOf (h .numberKinds) (h .numberValues) (s .numbers))))
-    → b₂ ≡ putAt b₁ (at + 2 * s .numbers) (words 2 (map offsetCode (slotsOf (h .stringKinds) (h .stringLengths) (s .strings))))
+pub slots-put : (s : Sizes) (h : Handed) (b₀ b₁ b₂ : List ℕ) (at : ℕ) → at + numberWidth * s .numbers + offsetWidth * s .strings ≤ length b₀
+    → b₁ ≡ putAt b₀ at (words numberWidth (map numberCode (numbersOf (h .numberKinds) (h .numberValues) (s .numbers))))
+    → b₂ ≡ putAt b₁ (at + numberWidth * s .numbers) (words offsetWidth (map offsetCode (slotsOf (h .stringKinds) (h .stringLengths) (s .strings))))
     → b₂ ≡ putAt b₀ at (slots s h)
 unfolding slots
 slots-put s h b₀ b₁ b₂ at r e₁ e₂ =
-    let n : List ℕ = words 2 (map numberCode (numbersOf (h .numberKinds) (h .numberValues) (s .numbers))) in
-    let o : List ℕ = words 2 (map offsetCode (slotsOf (h .stringKinds) (h .stringLengths) (s .strings))) in
-    let nl : length n ≡ 2 * s .numbers = length-shorts _ _ _ in
-    let ol : length o ≡ 2 * s .strings = length-shorts _ _ _ in
-    e₂ ∙ put-run b₀ b₁ at (at + 2 * s .numbers) n o (n ++ o) e₁ (omega arith) refl (omega arith)
+    let n : List ℕ = words numberWidth (map numberCode (numbersOf (h .numberKinds) (h .numberValues) (s .numbers))) in
+    let o : List ℕ = words offsetWidth (map offsetCode (slotsOf (h .stringKinds) (h .stringLengths) (s .strings))) in
+    let nl : length n ≡ numberWidth * s .numbers = length-shorts _ _ _ in
+    let ol : length o ≡ offsetWidth * s .strings = length-shorts _ _ _ in
+    e₂ ∙ put-run b₀ b₁ at (at + numberWidth * s .numbers) n o (n ++ o) e₁ (omega arith) refl (omega arith)
 
 -- the front and the string table are the file
 pub file-put : (e : Edition) (h : Handed) (g : ℕ → State (List ℕ)) → Described (h .stringKinds) (h .stringLengths) g (e .strings) → (b₀ b₁ b₂ : List ℕ) {q : ℕ} {s : Sizes}

@@ -7,7 +7,7 @@ use Prim.Native.Nat.{ℕ}
 use lib.ListN.{length}
 use Rattle.base.specs.Scan.{every}
 use Rattle.edition.specs.declared.Edition.{Edition}
-use Rattle.base.specs.Answer.{Answer, mapAnswer, bufferAfter}
+use Rattle.base.specs.Answer.{Answer, Leaves}
 use Rattle.entry.specs.Writing.{Handed, enoughStates, namesFit, isLent, writing}
 
 -- neither 3 nor 4 nor 7
@@ -18,4 +18,4 @@ pub record Judged (e : Edition) (h : Handed) : Type 0 where
 
 -- the answer is what writing says, and after is what it leaves of the buffer
 abbrev pub Wrote : Edition → Handed → (before after : List ℕ) → Answer ℕ → Type 0
-Wrote e h before after says = (says ≡ mapAnswer length (writing e h (length before))) × (after ≡ bufferAfter before (writing e h (length before)))
+Wrote e h before after says = Leaves (writing e h (length before)) before after says

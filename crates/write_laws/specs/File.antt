@@ -8,7 +8,7 @@ use Rattle.base.specs.Tabulate.{tabulate}
 use Rattle.word.specs.Word.{words}
 use Rattle.edition.specs.declared.Edition.{Edition}
 use Rattle.entry.specs.declared.Sizes.{Sizes}
-use Rattle.entry.specs.Limits.{fileMost}
+use Rattle.entry.specs.Limits.{fileMost, numberWidth, offsetWidth, shortWidth}
 use Rattle.entry.specs.State.{State, booleanCode}
 use Rattle.entry.specs.Layout.{padOf, sizeOf}
 use Rattle.entry.specs.Reading.{Entry}
@@ -36,13 +36,13 @@ entryWith e h g =
 
 -- the header, the names, the booleans and the pad byte
 unfoldable pub head : Sizes → Handed → List ℕ
-head s h = ((words 2 (header s) ++ (h .names ++ (0 ∷ []))) ++ map booleanCode (booleansOf (h .booleanKinds) (s .booleans))) ++ padding (padOf s)
+head s h = ((words shortWidth (header s) ++ (h .names ++ (0 ∷ []))) ++ map booleanCode (booleansOf (h .booleanKinds) (s .booleans))) ++ padding (padOf s)
 
 -- the slots of the numbers and of the strings
 unfoldable pub slots : Sizes → Handed → List ℕ
 slots s h =
-    words 2 (map numberCode (numbersOf (h .numberKinds) (h .numberValues) (s .numbers)))
-    ++ words 2 (map offsetCode (slotsOf (h .stringKinds) (h .stringLengths) (s .strings)))
+    words numberWidth (map numberCode (numbersOf (h .numberKinds) (h .numberValues) (s .numbers)))
+    ++ words offsetWidth (map offsetCode (slotsOf (h .stringKinds) (h .stringLengths) (s .strings)))
 
 -- all that stands before the string table
 abbrev pub front : Sizes → Handed → List ℕ
@@ -61,7 +61,7 @@ pub record SlotsFit (b : List ℕ) (at : ℕ) (s : Sizes) (h : Handed) : Type 0 
   pub stringKinds : s .strings ≤ length (h .stringKinds)
   pub stringLengths : s .strings ≤ length (h .stringLengths)
   pub most : total (h .stringKinds) (h .stringLengths) (s .strings) ≤ fileMost
-  pub room : at + 2 * s .numbers + 2 * s .strings ≤ length b
+  pub room : at + numberWidth * s .numbers + offsetWidth * s .strings ≤ length b
 
 pub record FrontFits (b : List ℕ) (s : Sizes) (h : Handed) : Type 0 where
   pub named : s .names ≡ length (h .names) + 1

@@ -14,14 +14,10 @@ ghost use Rattle.entry.specs.Handed.{booleansHanded, numbersHanded, stringsHand
 use edition::Edition;
 use entry::CANCELLED;
 use entry::CONTENT_MOST;
+use entry::GIVEN_NAMES_LEAST;
+use entry::GIVEN_NAMES_MOST;
+use entry::NUMBER_MOST;
 use entry::PRESENT;
-
-// The writer's names, without a NUL, and its largest number.
-const NAMES_LEAST: usize = 1;
-
-const NAMES_MOST: usize = 127;
-
-const NUMBER_MOST: u32 = 32767;
 
 fn least(a: usize, b: usize) -> usize
     ensures { λ r. ⌜ r ≡ min a b ⌝ }
@@ -71,10 +67,10 @@ pub fn names_fit(names: &[u8]) -> bool
     ensures { λ r. ⌜ r ≡ namesFit (now (names .entry)) ⌝ }
 {
     let n = names.len();
-    if n < NAMES_LEAST {
+    if n < GIVEN_NAMES_LEAST {
         return false;
     }
-    if NAMES_MOST < n {
+    if GIVEN_NAMES_MOST < n {
         return false;
     }
     no_nul(names)

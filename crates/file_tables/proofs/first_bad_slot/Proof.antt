@@ -9,15 +9,16 @@ use borrow.Author.Tests.{not-true, not-false}
 use borrow.Author.Needs.{needs}
 use Rattle.base.specs.Scan.{scan, scan-step, scan-hit, scan-end, scan-start}
 use Rattle.word.specs.Word.{word}
+use Rattle.entry.specs.Limits.{shortWidth}
 use Rattle.entry.specs.State.{okSlot}
 use Rattle.file_tables.proofs.first_bad_slot.Statement.{statement}
 use Rattle.file_tables.proofs.first_bad_slot.Tie as tie
 
 abbrev okCode : ℕ → ℕ → Bool
-okCode bound c = okSlot 2 (λ d. ltb d bound) c
+okCode bound c = okSlot shortWidth (λ d. ltb d bound) c
 
 abbrev okAt : List ℕ → ℕ → ℕ → ℕ → Bool
-okAt f at bound j = okCode bound (word 2 f (at + 2 * j))
+okAt f at bound j = okCode bound (word shortWidth f (at + shortWidth * j))
 
 abbrev Inv-loop : tie.InvT-loop
 Inv-loop file at n bound i₀ i = (i ≤ n) × (scan (okAt file at bound) 0 n ≡ scan (okAt file at bound) i (n - i))

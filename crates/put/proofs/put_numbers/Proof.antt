@@ -10,6 +10,7 @@ use borrow.Author.Needs.{needs}
 use Rattle.base.specs.Tabulate.{tabulate}
 use Rattle.base.specs.Overwrite.{putAt, put-nil}
 use Rattle.word.specs.Word.{words}
+use Rattle.entry.specs.Limits.{numberWidth}
 use Rattle.entry.specs.Writing.{numberCode, stateOf}
 use Rattle.put.specs.Table.{numbersOf}
 use Rattle.put.proofs.TableLaws.{short-turn}
@@ -17,7 +18,7 @@ use Rattle.put.proofs.put_numbers.Statement.{statement}
 use Rattle.put.proofs.put_numbers.Tie as tie
 
 abbrev Inv-loop : tie.InvT-loop
-Inv-loop b₀ at kinds values n i₀ b i = (i ≤ n) × (length b ≡ length b₀) × (b ≡ putAt b₀ at (words 2 (map numberCode (numbersOf kinds values i))))
+Inv-loop b₀ at kinds values n i₀ b i = (i ≤ n) × (length b ≡ length b₀) × (b ≡ putAt b₀ at (words numberWidth (map numberCode (numbersOf kinds values i))))
 
 abbrev μ-loop : tie.MeasureT-loop
 μ-loop b₀ at kinds values n i₀ b i = n - i
@@ -71,7 +72,7 @@ returns c =
     let a = c .before .before .before .before .before .args in
     let t = c .before .loop in
     let e : t .i ≡ a .n = omega arith in
-    t .inv .2 ∙ ap (λ (k : ℕ). putAt (now (a .b)) (a .at) (words 2 (map numberCode (numbersOf (now (a .kinds)) (now (a .values)) k)))) e
+    t .inv .2 ∙ ap (λ (k : ℕ). putAt (now (a .b)) (a .at) (words numberWidth (map numberCode (numbersOf (now (a .kinds)) (now (a .values)) k)))) e
 
 pub put-numbers-spec : {M : Type 1} → statement M
 put-numbers-spec =

@@ -10,6 +10,7 @@ use borrow.Author.Needs.{needs}
 use Rattle.base.specs.Tabulate.{tabulate}
 use Rattle.base.specs.Overwrite.{putAt, put-nil}
 use Rattle.word.specs.Word.{words}
+use Rattle.entry.specs.Limits.{offsetWidth}
 use Rattle.entry.specs.Reading.{offset}
 use Rattle.entry.specs.Writing.{offsetCode, stateOf}
 use Rattle.put.specs.Table.{total, slotAt, slotsOf}
@@ -18,7 +19,7 @@ use Rattle.put.proofs.put_slots.Statement.{statement}
 use Rattle.put.proofs.put_slots.Tie as tie
 
 abbrev Inv-loop : tie.InvT-loop
-Inv-loop b₀ at kinds lengths n next₀ i₀ b next i = (i ≤ n) × (length b ≡ length b₀) × (next ≡ total kinds lengths i) × (b ≡ putAt b₀ at (words 2 (map offsetCode (slotsOf kinds lengths i))))
+Inv-loop b₀ at kinds lengths n next₀ i₀ b next i = (i ≤ n) × (length b ≡ length b₀) × (next ≡ total kinds lengths i) × (b ≡ putAt b₀ at (words offsetWidth (map offsetCode (slotsOf kinds lengths i))))
 
 abbrev μ-loop : tie.MeasureT-loop
 μ-loop b₀ at kinds lengths n next₀ i₀ b next i = n - i
@@ -83,7 +84,7 @@ returns c =
     let a = c .before .before .before .before .before .args in
     let t = c .before .loop in
     let e : t .i ≡ a .n = omega arith in
-    t .inv .3 ∙ ap (λ (k : ℕ). putAt (now (a .b)) (a .at) (words 2 (map offsetCode (slotsOf (now (a .kinds)) (now (a .lengths)) k)))) e
+    t .inv .3 ∙ ap (λ (k : ℕ). putAt (now (a .b)) (a .at) (words offsetWidth (map offsetCode (slotsOf (now (a .kinds)) (now (a .lengths)) k)))) e
 
 pub put-slots-spec : {M : Type 1} → statement M
 put-slots-spec =
