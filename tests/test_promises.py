@@ -22,13 +22,12 @@ def braces(word):
 
 
 def promised():
-    """Each `CRATE/LABEL` of the promises' last column."""
+    """Each `CRATE/LABEL` that stands behind "Must fail:"."""
+    text = (ROOT / "docs/PROMISES.md").read_text(encoding="utf-8")
     names = set()
-    for line in (ROOT / "docs/PROMISES.md").read_text(encoding="utf-8").split("\n"):
-        cells = line.split(" | ")
-        if line.startswith("|") and len(cells) > 1:
-            for word in re.findall(r"`([^`]+)`", cells[-1]):
-                names.update(w for w in braces(word) if re.fullmatch(r"\w+/\w+", w))
+    for part in re.findall(r"^ +- Must fail: (.*?)(?=^ *- |^$|\Z)", text, re.MULTILINE | re.DOTALL):
+        for word in re.findall(r"`([^`]+)`", part):
+            names.update(w for w in braces(word) if re.fullmatch(r"\w+/\w+", w))
     return names
 
 

@@ -30,8 +30,8 @@ abbrev pub numberOf : {A : Type 0} → Answer A → ℕ
 numberOf (refused n v) = n
 numberOf (gives x) = 0
 
--- what a lent buffer holds after a call that gives it bytes: "Files and texts start at the buffer's first byte; bytes past them
--- stay"; a refusal "changes nothing lent"
+-- what a lent buffer holds after a call that gives it bytes: "Files and texts start at the buffer's first byte; bytes
+-- past them stay"; a refusal "changes nothing lent"
 abbrev pub bufferAfter : List ℕ → Answer (List ℕ) → List ℕ
 bufferAfter b (refused n v) = b
 bufferAfter b (gives bytes) = putAt b 0 bytes

@@ -8,10 +8,11 @@ use lib.ListN.{length, getD, take, drop, length-append}
 use lib.Seq.{take-at}
 use borrow.Author.Tests.{eq-eqb, ne-eqb}
 use Rattle.io.specs.Counts.{Counts}
-use Rattle.base.specs.Overwrite.{putAt, length-put, put-front, put-run}
+use Rattle.base.specs.Overwrite.{putAt}
+use Rattle.base.proofs.OverwriteLaws.{length-put, put-front, put-run}
 use Rattle.names.specs.Names.{ascii}
 use Rattle.beside.specs.Beside.{folderIn, beside}
-use Rattle.shown.specs.Puts.{counted}
+use Rattle.shown.proofs.PutsLaws.{counted}
 
 -- end is the folder's length in the first i bytes
 abbrev pub Folder : List ℕ → ℕ → ℕ → Type 0

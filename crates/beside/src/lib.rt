@@ -1,4 +1,5 @@
-// The name of a temporary file in the folder of another. Proved: `name_beside` puts what specs/Beside.antt says. Assumed: nothing.
+// The name of a temporary file in the folder of another. Proved: `name_beside` puts what specs/Beside.antt says.
+// Assumed: nothing.
 ghost use mathlib.Core.Path.{_≡_};
 ghost use Prim.Native.Nat.{_+_, _≤_};
 ghost use lib.ListN.{length, take};

@@ -17,7 +17,8 @@ use Rattle.base.specs.Answer.{Answer, refused, gives}
 use Rattle.entry.specs.Asking.{Opening}
 use Rattle.expansion.specs.Expanding.{Counts}
 
--- the refusal's number in the top byte and the first value that it gives below it; or what the call gives, by its own code
+-- the refusal's number in the top byte and the first value that it gives below it; or what the call gives, by its own
+-- code
 unfoldable pub numbered : {A : Type 0} → (A → ℕ) → Answer A → ℕ
 numbered code (refused n v) = n * 2 ^ 56 + getD v 0 0
 numbered code (gives x) = code x
@@ -26,7 +27,8 @@ numbered code (gives x) = code x
 abbrev pub none : {A : Type 0} → A → ℕ
 none x = 0
 
--- a state: its kind (0 absent, 1 present, 2 cancelled) in the byte below the top one, and a present one's content below it
+-- a state: its kind (0 absent, 1 present, 2 cancelled) in the byte below the top one, and a present one's content
+-- below it
 unfoldable pub stateCode : {A : Type 0} → (A → ℕ) → State A → ℕ
 stateCode code absent = 0
 stateCode code (present x) = 2 ^ 48 + code x
@@ -52,8 +54,8 @@ openingArray o =
     ∷ o .tables .«booleans_at» ∷ o .tables .«numbers_at» ∷ o .tables .«strings_at» ∷ o .tables .«table_at»
     ∷ o .beyond .booleans ∷ o .beyond .numbers ∷ o .beyond .strings ∷ []
 
--- the refusal's number above the first value that it gives; or the steps above the output's length, in 24 bits each. A string has at most
--- 1,000 items, so that values, steps and lengths are far below these bounds
+-- the refusal's number above the first value that it gives; or the steps above the output's length, in 24 bits each.
+-- A string has at most 1,000 items, so that values, steps and lengths are far below these bounds
 unfoldable pub expansionNumber : Answer Counts → ℕ
 expansionNumber (refused n v) = n * 2 ^ 56 + getD v 0 0 % 2 ^ 56
 expansionNumber (gives c) = c .steps % 2 ^ 24 * 2 ^ 24 + c .length % 2 ^ 24

@@ -1,17 +1,18 @@
-// Answers as 64-bit numbers, for the calls for C and Rust (include/terminfo_c.h): the refusal's number in the top byte, 0 for success, and
-// below it what the refusal or the call gives. Proved: each number is the one that specs/Numbers.antt gives for what the answer says.
-// Assumed: nothing.
+// Answers as 64-bit numbers, for the calls for C and Rust (include/terminfo_c.h): the refusal's number in the top
+// byte, 0 for success, and below it what the refusal or the call gives. Proved: each number is the one that
+// specs/Numbers.antt gives for what the answer says. Assumed: nothing.
 ghost use mathlib.Core.Path.{_≡_};
-ghost use Prim.Native.Nat.{_≤_};
-ghost use Rattle.entry.specs.Says.{saysNames, saysBoolean, saysNumber, saysString, saysWritten, saysMerged, fileNumber};
+ghost use Prim.Native.Nat.{_*_, _^_};
+ghost use Rattle.entry.specs.Says.{saysNames, saysBoolean, saysNumber, saysString, saysWritten, saysMerged};
 ghost use Rattle.names.specs.Naming.{saysName};
-ghost use Rattle.text.specs.Compiling.{textNumber, saysCompiled};
+ghost use Rattle.text.specs.Compiling.{saysCompiled};
 ghost use Rattle.text_laws.specs.Values.{Bounded};
 ghost use Rattle.expansion.specs.Expanding.{saysExpansion};
-ghost use Rattle.c_numbers.specs.Numbers.{numbered, booleanCode, numberCode, stringCode, partCode, openingArray, NamesWithin, StringWithin, WrittenWithin, MergedWithin, expansionNumber};
+ghost use Rattle.c_numbers.specs.Numbers.{numbered, booleanCode, numberCode, stringCode, partCode};
+ghost use Rattle.c_numbers.specs.Numbers.{openingArray, expansionNumber};
+ghost use Rattle.c_numbers.specs.Numbers.{NamesWithin, StringWithin, WrittenWithin, MergedWithin};
 use entry::Beyond;
 use entry::BooleanState;
-use entry::FileRefusal;
 use entry::Merged;
 use entry::Names;
 use entry::NumberState;
@@ -21,7 +22,6 @@ use entry::Written;
 use expansion::Expansion;
 use names::Name;
 use text::Compiled;
-use text::TextRefusal;
 
 // A refusal's number stands in the top byte.
 pub const TOP: u64 = 72057594037927936;
@@ -32,18 +32,11 @@ const KIND: u64 = 281474976710656;
 // A part's start stands above its length.
 const START: u64 = 16777216;
 
-pub fn file_number(why: FileRefusal) -> u64
-    ensures { λ r. ⌜ (r ≡ fileNumber why) × (r ≤ 7) ⌝ }
+// A refusal's number in the top byte.
+pub fn top(number: u8) -> u64
+    ensures { λ r. ⌜ r ≡ number * 2 ^ 56 ⌝ }
 {
-    match why {
-        FileRefusal::Length => 1,
-        FileRefusal::Magic => 2,
-        FileRefusal::Counts => 3,
-        FileRefusal::Names => 4,
-        FileRefusal::Boolean => 5,
-        FileRefusal::Number => 6,
-        FileRefusal::Slot => 7,
-    }
+    (number as u64) * TOP
 }
 
 // What opening gives, as an array.
@@ -70,7 +63,7 @@ pub fn names_number(n: Names) -> u64
 {
     match n {
         Names::At(p) => (p.start as u64) * START + p.length as u64,
-        Names::Refused => 17 * TOP,
+        Names::Refused => top(refusal_numbers::of_names(n)),
     }
 }
 
@@ -81,7 +74,7 @@ pub fn boolean_number(s: BooleanState) -> u64
         BooleanState::Absent => 0,
         BooleanState::Present => KIND,
         BooleanState::Cancelled => 2 * KIND,
-        BooleanState::Refused => 17 * TOP,
+        BooleanState::Refused => top(refusal_numbers::of_boolean(s)),
     }
 }
 
@@ -92,7 +85,7 @@ pub fn number_number(s: NumberState) -> u64
         NumberState::Absent => 0,
         NumberState::Present(n) => KIND + n as u64,
         NumberState::Cancelled => 2 * KIND,
-        NumberState::Refused => 17 * TOP,
+        NumberState::Refused => top(refusal_numbers::of_number(s)),
     }
 }
 
@@ -104,7 +97,7 @@ pub fn string_number(s: StringState) -> u64
         StringState::Absent => 0,
         StringState::Present(p) => KIND + (p.start as u64) * START + p.length as u64,
         StringState::Cancelled => 2 * KIND,
-        StringState::Refused => 17 * TOP,
+        StringState::Refused => top(refusal_numbers::of_string(s)),
     }
 }
 
@@ -112,14 +105,15 @@ pub fn written_number(w: Written) -> u64
     requires { ⌜ WrittenWithin w ⌝ }
     ensures { λ r. ⌜ r ≡ numbered (λ n. n) (saysWritten w) ⌝ }
 {
+    let refusal = top(refusal_numbers::of_written(w));
     match w {
         Written::File(n) => n as u64,
-        Written::Counts => 3 * TOP,
-        Written::Names => 4 * TOP,
-        Written::Lent => 7 * TOP,
-        Written::Limit => 13 * TOP,
-        Written::Size => 9 * TOP,
-        Written::Room(n) => 8 * TOP + n as u64,
+        Written::Counts => refusal,
+        Written::Names => refusal,
+        Written::Lent => refusal,
+        Written::Limit => refusal,
+        Written::Size => refusal,
+        Written::Room(n) => refusal + n as u64,
     }
 }
 
@@ -127,23 +121,12 @@ pub fn merged_number(m: Merged) -> u64
     requires { ⌜ MergedWithin m ⌝ }
     ensures { λ r. ⌜ r ≡ numbered (λ n. n) (saysMerged m) ⌝ }
 {
+    let refusal = top(refusal_numbers::of_merged(m));
     match m {
         Merged::File(n) => n as u64,
-        Merged::Refused(why) => file_number(why) * TOP,
-        Merged::Size => 9 * TOP,
-        Merged::Room(n) => 8 * TOP + n as u64,
-    }
-}
-
-// A text's refusal: document 01's number.
-fn text_number(why: TextRefusal) -> u64
-    ensures { λ r. ⌜ (r ≡ textNumber why) × (r ≤ 13) ⌝ }
-{
-    match why {
-        TextRefusal::Malformed => 10,
-        TextRefusal::Unknown => 11,
-        TextRefusal::Use => 12,
-        TextRefusal::Limit => 13,
+        Merged::Refused(_) => refusal,
+        Merged::Size => refusal,
+        Merged::Room(n) => refusal + n as u64,
     }
 }
 
@@ -151,12 +134,13 @@ pub fn compiled_number(c: Compiled) -> u64
     requires { ⌜ Bounded (saysCompiled c) ⌝ }
     ensures { λ r. ⌜ r ≡ numbered (λ n. n) (saysCompiled c) ⌝ }
 {
+    let refusal = top(refusal_numbers::of_compiled(c));
     match c {
         Compiled::File(n) => n as u64,
-        Compiled::Length => TOP,
-        Compiled::Refused(why, place) => text_number(why) * TOP + place as u64,
-        Compiled::Size => 9 * TOP,
-        Compiled::Room(n) => 8 * TOP + n as u64,
+        Compiled::Length => refusal,
+        Compiled::Refused(_, place) => refusal + place as u64,
+        Compiled::Size => refusal,
+        Compiled::Room(n) => refusal + n as u64,
     }
 }
 
@@ -165,21 +149,22 @@ pub fn name_number(n: Name) -> u64
 {
     match n {
         Name::Packed(w) => w,
-        Name::Beyond => 17 * TOP,
+        Name::Beyond => top(refusal_numbers::of_name(n)),
     }
 }
 
 pub fn expansion_number(e: Expansion) -> u64
     ensures { λ r. ⌜ r ≡ expansionNumber (saysExpansion e) ⌝ }
 {
+    let refusal = top(refusal_numbers::of_expansion(e));
     match e {
         Expansion::Done { length, steps } => (steps as u64) % START * START
             + (length as u64) % START,
-        Expansion::Place => 17 * TOP,
-        Expansion::Length => TOP,
-        Expansion::Malformed(i) => 14 * TOP + (i as u64) % TOP,
-        Expansion::Empty(i) => 15 * TOP + (i as u64) % TOP,
-        Expansion::Full(i) => 16 * TOP + (i as u64) % TOP,
-        Expansion::Room(n) => 8 * TOP + (n as u64) % TOP,
+        Expansion::Place => refusal,
+        Expansion::Length => refusal,
+        Expansion::Malformed(i) => refusal + (i as u64) % TOP,
+        Expansion::Empty(i) => refusal + (i as u64) % TOP,
+        Expansion::Full(i) => refusal + (i as u64) % TOP,
+        Expansion::Room(n) => refusal + (n as u64) % TOP,
     }
 }

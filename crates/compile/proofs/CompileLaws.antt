@@ -1,17 +1,18 @@
 -- Laws of compiling from the arrays at first to the answer.
 -- Assumes nothing.
 use mathlib.Core.Path.{_≡_, refl, sym, ap, _∙_, subst}
-use mathlib.Core.Bool.{Bool, true, false}
+use mathlib.Core.Bool.{true}
 use mathlib.Core.List.{List, [], _∷_}
 use Prim.Native.Nat.{ℕ, zero, suc, _+_, _≤_, _<_}
 use native.Mathlib.Omega.{arith}
 use lib.ListN.{length, getD, replicate}
 use borrow.Author.Tests.{le-leb, lt-leb}
-use Rattle.base.specs.Tabulate.{tabulate, tabulate-ext}
+use Rattle.base.specs.Tabulate.{tabulate}
+use Rattle.base.proofs.TabulateLaws.{tabulate-ext}
 use Rattle.edition.specs.declared.Edition.{Edition}
 use Rattle.edition.specs.Edition.{okEdition}
 use Rattle.entry.specs.State.{State, absent}
-use Rattle.base.specs.Answer.{Answer, refused, gives, Leaves}
+use Rattle.base.specs.Answer.{Answer, refused, Leaves}
 use Rattle.entry.specs.Reading.{Entry}
 use Rattle.entry.specs.Writing.{Handed, stateOf}
 use Rattle.entry.specs.Handed.{handed}
@@ -19,13 +20,12 @@ use Rattle.write_laws.proofs.AnswerLaws.{edition-facts}
 use Rattle.text.specs.declared.Header.{Header}
 use Rattle.text.specs.declared.Header.the-variants as H
 use Rattle.text.specs.declared.Line.{Line}
-use Rattle.text.specs.declared.Line.the-variants.{End, Column, Indented}
 use Rattle.text.specs.declared.TextRefusal.{TextRefusal}
 use Rattle.text.specs.Bytes.{textMost}
 use Rattle.text.specs.Strings.{readAt, bytesOf}
 use Rattle.text.specs.Lines.{lineAt}
 use Rattle.text.specs.Heading.{namesTo, headerAt}
-use Rattle.text.specs.Describing.{bare, fieldsFrom, headed, begun, describing}
+use Rattle.text.specs.Describing.{bare, describedFrom, headed, begun, describing}
 use Rattle.text.specs.Compiling.{fitting, fitted, compiling, textNumber}
 use Rattle.walk_fields.specs.declared.Walked.{Walked}
 use Rattle.walk_fields.specs.declared.Walked.the-variants as W
@@ -46,7 +46,8 @@ zero-at zero i = refl
 zero-at (suc n) zero = refl
 zero-at (suc n) (suc i) = zero-at n i
 
-all-absent : {A : Type 0} (c : ℕ → A) (kinds : List ℕ) (n : ℕ) → ((i : ℕ) → getD kinds i 0 ≡ 0) → tabulate (λ i. stateOf (getD kinds i 0) (c i)) n ≡ replicate n absent
+all-absent : {A : Type 0} (c : ℕ → A) (kinds : List ℕ) (n : ℕ) → ((i : ℕ) → getD kinds i 0 ≡ 0)
+    → tabulate (λ i. stateOf (getD kinds i 0) (c i)) n ≡ replicate n absent
 unfolding tabulate stateOf
 all-absent c kinds zero z = refl
 all-absent {A} c kinds (suc n) z =
@@ -88,7 +89,8 @@ module _ (e : Edition) (t : List ℕ) where
       }
 
 -- what holds without names holds under every name
-pub holds-named : (e : Edition) (n bk nk nv sk ss sl t : List ℕ) → Holds e (handed [] bk nk nv sk ss sl t) → Holds e (handed n bk nk nv sk ss sl t)
+pub holds-named : (e : Edition) (n bk nk nv sk ss sl t : List ℕ) → Holds e (handed [] bk nk nv sk ss sl t)
+    → Holds e (handed n bk nk nv sk ss sl t)
 holds-named e n bk nk nv sk ss sl t h =
     let g = h .given in
     record {
@@ -109,21 +111,24 @@ holds-named e n bk nk nv sk ss sl t h =
 module _ (e : Edition) (t : List ℕ) (i c : ℕ) (after : List ℕ → Handed) (r : Walked) (w : Walks e (c + 1) (cleared e t) after r) where
   fields-come : (u : Walked) → r ≡ u → headed e t i (H.Right c) ≡ walkedAs (textEntry e (after (namesTo t i c))) u
   fields-come u q =
-      ap (λ (x : Entry). fieldsFrom e t (record { at = c + 1; entry = x })) (sym (cleared-entry e t (namesTo t i c)))
+      ap (describedFrom e t (c + 1)) (sym (cleared-entry e t (namesTo t i c)))
       ∙ w .entry (namesTo t i c)
       ∙ ap (walkedAs (textEntry e (after (namesTo t i c)))) q
 
-  pub fields-done : r ≡ W.Done → (b d : List ℕ) (says : Answer ℕ) → Leaves (fitting (length b) (textEntry e (after (namesTo t i c)))) b d says
+  pub fields-done : r ≡ W.Done → (b d : List ℕ) (says : Answer ℕ)
+      → Leaves (fitting (length b) (textEntry e (after (namesTo t i c)))) b d says
       → Leaves (fitted (length b) (headed e t i (H.Right c))) b d says
   fields-done q b d says l = subst (λ (a : Answer Entry). Leaves (fitted (length b) a) b d says) (sym (fields-come W.Done q)) l
 
-  pub fields-bad : (why : TextRefusal) (p : ℕ) → r ≡ W.Refused why p → (b : List ℕ) → Leaves (fitted (length b) (headed e t i (H.Right c))) b b (refused (textNumber why) (p ∷ []))
+  pub fields-bad : (why : TextRefusal) (p : ℕ) → r ≡ W.Refused why p → (b : List ℕ)
+      → Leaves (fitted (length b) (headed e t i (H.Right c))) b b (refused (textNumber why) (p ∷ []))
   fields-bad why p q b =
       subst (λ (a : Answer Entry). Leaves (fitted (length b) a) b b (refused (textNumber why) (p ∷ []))) (sym (fields-come (W.Refused why p) q)) (refl, refl)
 
 -- ---- the header
 
-pub header-comes : (e : Edition) (t : List ℕ) (i : ℕ) (h : Header) → h ≡ headerAt t i → (b d : List ℕ) (says : Answer ℕ) → Leaves (fitted (length b) (headed e t i h)) b d says
+pub header-comes : (e : Edition) (t : List ℕ) (i : ℕ) (h : Header) → h ≡ headerAt t i
+    → (b d : List ℕ) (says : Answer ℕ) → Leaves (fitted (length b) (headed e t i h)) b d says
     → Leaves (fitted (length b) (headed e t i (headerAt t i))) b d says
 header-comes e t i h q b d says l = subst (λ (x : Header). Leaves (fitted (length b) (headed e t i x)) b d says) q l
 
@@ -134,7 +139,8 @@ module _ (e : Edition) (t b : List ℕ) where
   unfolding compiling
   text-long h = (rw (lt-leb _ _ h), rw (lt-leb _ _ h))
 
-  pub text-comes : length t ≤ textMost → (l : Line) → lineAt t 0 ≡ l → (d : List ℕ) (says : Answer ℕ) → Leaves (fitted (length b) (begun e t l)) b d says
+  pub text-comes : length t ≤ textMost → (l : Line) → lineAt t 0 ≡ l → (d : List ℕ) (says : Answer ℕ)
+      → Leaves (fitted (length b) (begun e t l)) b d says
       → Leaves (compiling e t (length b)) b d says
   unfolding compiling describing
   text-comes h l q d says w =

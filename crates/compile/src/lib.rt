@@ -1,5 +1,5 @@
-// Compiles source text (document 01: Source text, order of text). Proved: `compile` answers every text as `compiling` of text/specs says
-// in the first edition, and a refusal leaves the buffer as it was. Assumed: nothing.
+// Compiles source text (document 01: Source text, order of text). Proved: `compile` answers every text as `compiling`
+// of text/specs says in the first edition, and a refusal leaves the buffer as it was. Assumed: nothing.
 ghost use mathlib.Core.Path.{_≡_};
 ghost use mathlib.Core.Bool.{true};
 ghost use Prim.Native.Nat.{_+_, _<_};
@@ -23,8 +23,8 @@ use text::TEXT_MOST;
 use text::TextRefusal;
 use walk_fields::Walked;
 
-// The start and the length of a string that no field has given: nobody reads them, since its kind is absent. A word whose bytes differ, so
-// that an array is filled by stores of vectors and not by a call.
+// The start and the length of a string that no field has given: nobody reads them, since its kind is absent. A word
+// whose bytes differ, so that an array is filled by stores of vectors and not by a call.
 const UNSET: usize = 1;
 
 // Compiles a text whose header starts at a place and has its comma at another.
@@ -36,7 +36,9 @@ fn compile_fields(
     buffer: &mut [u8],
 ) -> Compiled
     requires { ⌜ (okEdition edition ≡ true) × (headerAt (now text) at ≡ Headers.Right comma) ⌝ }
-    ensures { λ r. ⌜ Leaves (fitted (length (now (buffer .entry))) (headed edition (now (text .entry)) at (Headers.Right comma))) (now (buffer .entry)) (now (buffer .exit)) (saysCompiled r) ⌝ }
+    ensures { λ r. ⌜ Leaves (fitted (length (now (buffer .entry)))
+        (headed edition (now (text .entry)) at (Headers.Right comma))) (now (buffer .entry)) (now (buffer .exit))
+        (saysCompiled r) ⌝ }
 {
     let mut boolean_kinds = [0u8; BOOLEANS_MOST];
     let mut number_kinds = [0u8; NUMBERS_MOST];
@@ -74,7 +76,9 @@ fn compile_fields(
 // Compiles a text whose header starts at a place.
 fn compile_headed(text: &[u8], at: usize, edition: Edition, buffer: &mut [u8]) -> Compiled
     requires { ⌜ (okEdition edition ≡ true) × (at < length (now text)) ⌝ }
-    ensures { λ r. ⌜ Leaves (fitted (length (now (buffer .entry))) (headed edition (now (text .entry)) at (headerAt (now (text .entry)) at))) (now (buffer .entry)) (now (buffer .exit)) (saysCompiled r) ⌝ }
+    ensures { λ r. ⌜ Leaves (fitted (length (now (buffer .entry)))
+        (headed edition (now (text .entry)) at (headerAt (now (text .entry)) at))) (now (buffer .entry))
+        (now (buffer .exit)) (saysCompiled r) ⌝ }
 {
     match text_header::header_at(text, at) {
         Header::Right(comma) => compile_fields(text, at, comma, edition, buffer),
@@ -86,7 +90,8 @@ fn compile_headed(text: &[u8], at: usize, edition: Edition, buffer: &mut [u8]) -
 // Compiles a text in an edition.
 fn compile_in(text: &[u8], edition: Edition, buffer: &mut [u8]) -> Compiled
     requires { ⌜ okEdition edition ≡ true ⌝ }
-    ensures { λ r. ⌜ Leaves (compiling edition (now (text .entry)) (length (now (buffer .entry)))) (now (buffer .entry)) (now (buffer .exit)) (saysCompiled r) ⌝ }
+    ensures { λ r. ⌜ Leaves (compiling edition (now (text .entry)) (length (now (buffer .entry))))
+        (now (buffer .entry)) (now (buffer .exit)) (saysCompiled r) ⌝ }
 {
     if TEXT_MOST < text.len() {
         return Compiled::Length;
@@ -98,9 +103,11 @@ fn compile_in(text: &[u8], edition: Edition, buffer: &mut [u8]) -> Compiled
     }
 }
 
-// Writes the file of the description in a text at the buffer's start, in the first edition, or refuses and leaves the buffer as it is.
+// Writes the file of the description in a text at the buffer's start, in the first edition, or refuses and leaves the
+// buffer as it is.
 pub fn compile(text: &[u8], buffer: &mut [u8]) -> Compiled
-    ensures { λ r. ⌜ Leaves (compiling firstEdition (now (text .entry)) (length (now (buffer .entry)))) (now (buffer .entry)) (now (buffer .exit)) (saysCompiled r) ⌝ }
+    ensures { λ r. ⌜ Leaves (compiling firstEdition (now (text .entry)) (length (now (buffer .entry))))
+        (now (buffer .entry)) (now (buffer .exit)) (saysCompiled r) ⌝ }
 {
     compile_in(text, names::FIRST_EDITION, buffer)
 }

@@ -9,7 +9,8 @@ use native.Mathlib.Omega.{arith}
 use lib.Dec.{leb}
 use lib.ListN.{length, getD, set}
 use borrow.Author.Tests.{le-leb, lt-leb}
-use Rattle.base.specs.Overwrite.{putAt, put-nil, put-run, put-store}
+use Rattle.base.specs.Overwrite.{putAt}
+use Rattle.base.proofs.OverwriteLaws.{put-nil, put-run, put-store}
 use Rattle.base.specs.Tabulate.{tabulate}
 use Rattle.edition.specs.declared.Edition.{Edition}
 use Rattle.edition.specs.Edition.{okEdition}
@@ -19,7 +20,7 @@ use Rattle.entry.specs.State.{mapState}
 use Rattle.base.specs.Answer.{refused, gives, Leaves}
 use Rattle.entry.specs.Layout.{sizeOf}
 use Rattle.entry.specs.Writing.{Handed, stateOf, stringTable, encode}
-use Rattle.put.specs.Table.{total, Described}
+use Rattle.put.specs.Table.{total, HasLengths}
 use Rattle.put.proofs.TableLaws.{map-stateOf, state-other, part-present}
 use Rattle.entry.specs.Handed.{frontHanded}
 use Rattle.write_laws.specs.File.{sizesHanded, FrontFits}
@@ -31,7 +32,7 @@ use Rattle.judge.specs.Judged.{StandsAt}
 use Rattle.compile_laws.specs.Held.{textString, textEntry, StringsStand, Holds}
 
 -- strings that stand in the text are of their kinds and lengths
-pub text-described : (h : Handed) (n : ℕ) → StringsStand h n → Described (h .stringKinds) (h .stringLengths) (textString h) n
+pub text-described : (h : Handed) (n : ℕ) → StringsStand h n → HasLengths (h .stringKinds) (h .stringLengths) (textString h) n
 text-described h n s i l =
     map-stateOf length (getD (h .stringKinds) i 0) (bytesOf (readAt (h .lent) (getD (h .stringStarts) i 0)))
     ∙ elim (ℕ-discrete (getD (h .stringKinds) i 0) 1) [

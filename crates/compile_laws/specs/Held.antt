@@ -1,4 +1,5 @@
--- What the arrays of the compiler hold: states by kinds and contents, as the writer takes them; a present string starts at a place of the text.
+-- What the arrays of the compiler hold: states by kinds and contents, as the writer takes them; a present string
+-- starts at a place of the text.
 -- Assumes nothing.
 use mathlib.Core.Path.{_≡_}
 use mathlib.Core.List.{List, []}
@@ -31,7 +32,9 @@ ShortAt t i n = StandsAt t i n × (n ≤ contentMost)
 
 -- each present string of the first n stands in the text and is counted
 abbrev pub StringsStand : Handed → ℕ → Type 0
-StringsStand h n = (i : ℕ) → i < n → getD (h .stringKinds) i 0 ≡ 1 → ShortAt (h .lent) (getD (h .stringStarts) i 0) (getD (h .stringLengths) i 0)
+StringsStand h n =
+    (i : ℕ) → i < n → getD (h .stringKinds) i 0 ≡ 1
+    → ShortAt (h .lent) (getD (h .stringStarts) i 0) (getD (h .stringLengths) i 0)
 
 pub record Holds (e : Edition) (h : Handed) : Type 0 where
   pub given : Given e h
@@ -44,7 +47,8 @@ kept kinds xs p v = if eqb (getD kinds p 0) 0 then set xs p v else xs
 -- what a field says is kept, under whatever names
 pub record Keeps (e : Edition) (before after : List ℕ → Handed) (s : Said) : Type 0 where
   pub holds : Holds e (after [])
-  pub entry : (n : List ℕ) → textEntry e (after n) ≡ with-saying (textEntry e (before n)) (sayingSaid (before [] .lent) s)
+  pub entry : (n : List ℕ) → textEntry e (after n) ≡ with-saying (textEntry e (before n))
+      (sayingSaid (before [] .lent) s)
 
 -- ---- the strings of the text in the string table
 

@@ -7,9 +7,11 @@ use Prim.Native.Nat.{ℕ, zero, suc, _+_, _-_, _/_, _%_, _≤_, _<_}
 use native.Mathlib.Omega.{arith}
 use lib.Dec.{eqb}
 use lib.ListN.{length, List·getD-eq-default}
-use borrow.Author.Tests.{lt-ltb, le-ltb, eqb-true, eq-eqb, ne-eqb, not-true}
-use Rattle.base.specs.If.{if_then_else_, true-false, and-left, and-right, below-or}
-use Rattle.base.specs.Scan.{scan, scan-pass, scan-stop, scan-ge}
+use borrow.Author.Tests.{le-ltb, eqb-true, eq-eqb, ne-eqb, not-true}
+use Rattle.base.specs.If.{if_then_else_}
+use Rattle.base.proofs.IfLaws.{true-false, and-left, and-right, below-or}
+use Rattle.base.specs.Scan.{scan}
+use Rattle.base.proofs.ScanLaws.{scan-pass, scan-stop, scan-ge}
 use Rattle.expansion.specs.declared.Class.{Class}
 use Rattle.expansion.specs.declared.Class.the-variants.{Plain, If, Then, Else, End, Wrong}
 use Rattle.expansion.specs.declared.Classed.{Classed}
@@ -22,42 +24,20 @@ use Rattle.conditionals.specs.declared.Turn.the-variants.{Go, Stop}
 use Rattle.conditionals.specs.declared.Walked.the-variants as W
 use Rattle.conditionals.specs.declared.Passed.{Passed}
 use Rattle.conditionals.specs.declared.Passed.the-variants as P
-use Rattle.conditionals.specs.Walk.{nestedMost, nested, formLeft, PassedAs, isPlain, plainEnd, endsAt, opening, Came, WalkedAs}
-use Rattle.conditionals.proofs.WalkLaws.{keptOf, kept-if, kept-go, class-on, left-go, left-stop, left-end, nested-most}
+use Rattle.conditionals.specs.Walk.{nestedMost, nested, formLeft, PassedAs, isPlain, plainEnd, endsAt, innerAfter, Came, WalkedAs}
+use Rattle.expansion_laws.specs.Forms.{class-on}
+use Rattle.expansion_laws.specs.Passes.{passedTo, passed-step, passed-end}
+use Rattle.conditionals.proofs.WalkLaws.{keptOf, kept-if, kept-go, left-go, left-stop, left-end, nested-most}
 
 -- ---- the steps of passing
 
-passed-go : (f : ℕ) (e : Bool) (s : List ℕ) (i d d′ : ℕ) → i < length s → passing e (classAt s i .class) d ≡ opens d′ → passed (suc f) e s i d ≡ passed f e s (classAt s i .next) d′
-unfolding passed
-passed-go f e s i d d′ h q = rw (passed, lt-ltb i (length s) h, q)
+pass-go : (e : Bool) (s : List ℕ) (i d d′ : ℕ) → i < length s → passing e (classAt s i .class) d ≡ opens d′
+    → passedTo e s i d ≡ passedTo e s (classAt s i .next) d′
+pass-go e s i d d′ h q = passed-step e s i d h ∙ rw q
 
-passed-stop : (f : ℕ) (e : Bool) (s : List ℕ) (i d : ℕ) → i < length s → passing e (classAt s i .class) d ≡ stops → passed (suc f) e s i d ≡ classAt s i .next
-unfolding passed
-passed-stop f e s i d h q = rw (passed, lt-ltb i (length s) h, q)
-
-passed-end : (f : ℕ) (e : Bool) (s : List ℕ) (i d : ℕ) → length s ≤ i → passed f e s i d ≡ i
-unfolding passed
-passed-end zero e s i d h = refl
-passed-end (suc f) e s i d h = rw (passed, le-ltb i (length s) h)
-
--- a count that is enough may be larger
-passed-more : (n : ℕ) (e : Bool) (s : List ℕ) (i d : ℕ) → length s - i ≤ n → passed n e s i d ≡ passed (suc n) e s i d
-passed-more zero e s i d h = passed-end zero e s i d (omega arith) ∙ sym (passed-end 1 e s i d (omega arith))
-passed-more (suc n) e s i d h =
-    below-or i (length s)
-    (λ l. by-passing (passing e (classAt s i .class) d) refl l (λ d′. passed-more n e s (classAt s i .next) d′ (omega (arith, class-on s i l))))
-    (λ l. passed-end (suc n) e s i d l ∙ sym (passed-end (suc (suc n)) e s i d l))
-  where
-    by-passing : (p : Passing) → passing e (classAt s i .class) d ≡ p → i < length s → ((d′ : ℕ) → passed n e s (classAt s i .next) d′ ≡ passed (suc n) e s (classAt s i .next) d′)
-        → passed (suc n) e s i d ≡ passed (suc (suc n)) e s i d
-    by-passing (opens d′) q l ih = passed-go n e s i d d′ l q ∙ ih d′ ∙ sym (passed-go (suc n) e s i d d′ l q)
-    by-passing stops q l ih = passed-stop n e s i d l q ∙ sym (passed-stop (suc n) e s i d l q)
-
-pass-go : (e : Bool) (s : List ℕ) (i d d′ : ℕ) → i < length s → passing e (classAt s i .class) d ≡ opens d′ → passed (length s) e s i d ≡ passed (length s) e s (classAt s i .next) d′
-pass-go e s i d d′ h q = passed-more (length s) e s i d (omega arith) ∙ passed-go (length s) e s i d d′ h q
-
-pass-stop : (e : Bool) (s : List ℕ) (i d : ℕ) → i < length s → passing e (classAt s i .class) d ≡ stops → passed (length s) e s i d ≡ classAt s i .next
-pass-stop e s i d h q = passed-more (length s) e s i d (omega arith) ∙ passed-stop (length s) e s i d h q
+pass-stop : (e : Bool) (s : List ℕ) (i d : ℕ) → i < length s → passing e (classAt s i .class) d ≡ stops
+    → passedTo e s i d ≡ classAt s i .next
+pass-stop e s i d h q = passed-step e s i d h ∙ rw q
 
 -- ---- the walk's turns are those of passing, where ends is set
 
@@ -65,8 +45,8 @@ abbrev passingTurn : Passing → Turn
 passingTurn stops = Stop
 passingTurn (opens d) = Go d
 
-opening-passing : (e : Bool) (c : Class) (d : ℕ) → opening true e c d ≡ passingTurn (passing e c d)
-unfolding opening passing
+opening-passing : (e : Bool) (c : Class) (d : ℕ) → innerAfter true e c d ≡ passingTurn (passing e c d)
+unfolding innerAfter passing
 opening-passing e Plain d = refl
 opening-passing e If d = ap Go (omega arith)
 opening-passing e Then d = refl
@@ -87,8 +67,8 @@ passing-of (opens d) stops e = absurd (go-stop e)
 passing-of (opens d) (opens d′) e = let z : d ≡ d′ = cc in ap opens z
 
 -- one conditional more at most
-opening-more : (b e : Bool) (c : Class) (d : ℕ) → keptOf (opening b e c d) ≤ d + 1
-unfolding opening
+opening-more : (b e : Bool) (c : Class) (d : ℕ) → keptOf (innerAfter b e c d) ≤ d + 1
+unfolding innerAfter
 opening-more b e Plain d = omega arith
 opening-more b e If d = omega arith
 opening-more b e Then d = omega arith
@@ -98,8 +78,8 @@ opening-more b e End d =
 opening-more b e Wrong d = omega arith
 
 -- a walk that is to stop nowhere goes on
-opening-on : (c : Class) (d : ℕ) → opening false false c d ≡ Stop → ⊥
-unfolding opening
+opening-on : (c : Class) (d : ℕ) → innerAfter false false c d ≡ Stop → ⊥
+unfolding innerAfter
 opening-on Plain d q = go-stop q
 opening-on If d q = go-stop q
 opening-on Then d q = go-stop q
@@ -109,7 +89,7 @@ opening-on End zero q = go-stop q
 opening-on End (suc d) q = go-stop (rw (ne-eqb (suc d) 0 (λ x. omega arith)) at q)
 opening-on Wrong d q = go-stop q
 
-opening-stop : (b e : Bool) (c : Class) (d : ℕ) → opening b e c d ≡ Stop → (b || e) ≡ true
+opening-stop : (b e : Bool) (c : Class) (d : ℕ) → innerAfter b e c d ≡ Stop → (b || e) ≡ true
 opening-stop true e c d q = refl
 opening-stop false true c d q = refl
 opening-stop false false c d q = absurd (opening-on c d q)
@@ -129,7 +109,7 @@ along-start s from before ends elses h = record { form = refl; place = λ _. ref
 module _ (s : List ℕ) (from before : ℕ) (ends elses : Bool) (i k d : ℕ) (a : Along s from before ends elses i k d) where
   pub along-end : length s ≤ i → WalkedAs s from before ends elses (W.Ended i k)
   along-end h =
-      (h, record { form = a .form; place = λ b. a .place b ∙ passed-end (length s) elses s i d h; on = a .on; most = a .most })
+      (h, record { form = a .form; place = λ b. a .place b ∙ passed-end elses s i d h; on = a .on; most = a .most })
 
   -- the item at i, and what is known of it
   module _ (c : Classed) (e : c ≡ classAt s i) (h : i < length s) where
@@ -139,7 +119,7 @@ module _ (s : List ℕ) (from before : ℕ) (ends elses : Bool) (i k d : ℕ) (a
     pub along-wrong : nested (c .class) k ≡ Stop → WalkedAs s from before ends elses (W.Wrong i)
     along-wrong q = a .form ∙ left-stop s i k h (rw e at q)
 
-    pub along-stop : (k′ : ℕ) → nested (c .class) k ≡ Go k′ → opening ends elses (c .class) d ≡ Stop → WalkedAs s from before ends elses (W.Stopped (c .next) k′)
+    pub along-stop : (k′ : ℕ) → nested (c .class) k ≡ Go k′ → innerAfter ends elses (c .class) d ≡ Stop → WalkedAs s from before ends elses (W.Stopped (c .next) k′)
     along-stop k′ q o = (
       opening-stop ends elses (c .class) d o,
       record {
@@ -150,14 +130,14 @@ module _ (s : List ℕ) (from before : ℕ) (ends elses : Bool) (i k d : ℕ) (a
       },
     )
 
-    pub along-go : (k′ d′ : ℕ) → nested (c .class) k ≡ Go k′ → opening ends elses (c .class) d ≡ Go d′ → Along s from before ends elses (c .next) k′ d′
+    pub along-go : (k′ d′ : ℕ) → nested (c .class) k ≡ Go k′ → innerAfter ends elses (c .class) d ≡ Go d′ → Along s from before ends elses (c .next) k′ d′
     along-go k′ d′ q o =
         record {
           form = a .form ∙ rw e (left-go s i k k′ h (rw e at q));
           place = λ b. a .place b ∙ rw e (pass-go elses s i d d′ h (passing-of (passing elses (classAt s i .class) d) (opens d′) (sym (opening-passing elses (classAt s i .class) d) ∙ rw (e, b) at o)));
           on = omega (arith, a .on, class-next);
           most = nested-most (c .class) k k′ (a .most) q;
-          few = omega (arith, a .few, class-next, kept-go (d + 1) d′ (opening ends elses (c .class) d) (opening-more ends elses (c .class) d) o);
+          few = omega (arith, a .few, class-next, kept-go (d + 1) d′ (innerAfter ends elses (c .class) d) (opening-more ends elses (c .class) d) o);
         }
 
 -- ---- bytes that are items by themselves, and `%;`

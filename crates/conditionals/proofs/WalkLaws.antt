@@ -9,20 +9,16 @@ use native.Mathlib.Omega.{arith}
 use lib.Dec.{eqb, ltb}
 use lib.ListN.{length}
 use borrow.Author.Tests.{lt-ltb, le-ltb, ltb-true, eq-eqb, ne-eqb, eqb-true}
-use Rattle.base.specs.If.{if_then_else_, below-or}
+use Rattle.base.specs.If.{if_then_else_}
+use Rattle.base.proofs.IfLaws.{below-or}
 use Rattle.expansion.specs.declared.Class.{Class}
 use Rattle.expansion.specs.declared.Class.the-variants.{Plain, If, Then, Else, End, Wrong}
 use Rattle.expansion.specs.declared.Form.the-variants as F
 use Rattle.expansion.specs.Form.{classAt, Level, condition, body, otherwise, Nesting, levels, misplaced, afterIf, afterThen, afterElse, afterEnd, nesting, formFrom, formOf}
-use Rattle.item_parts.proofs.Laws.{item-on}
+use Rattle.expansion_laws.specs.Forms.{class-on}
 use Rattle.conditionals.specs.declared.Turn.{Turn}
 use Rattle.conditionals.specs.declared.Turn.the-variants.{Go, Stop}
 use Rattle.conditionals.specs.Walk.{nestedMost, nested, checked, formLeft}
-
--- an item leads on
-pub class-on : (s : List ℕ) (i : ℕ) → i < length s → i < classAt s i .next
-unfolding classAt
-class-on s i h = item-on s i h
 
 -- ---- the steps of the check
 

@@ -1,10 +1,11 @@
--- The number kept along a string's items, two bits for each open conditional, the innermost lowest: 1 a condition from `%?` on, 2 a body,
--- 3 what follows `%e`; and the form of what is left of a string, by that number.
+-- The number kept along a string's items, two bits for each open conditional, the innermost lowest: 1 a condition
+-- from `%?` on, 2 a body, 3 what follows `%e`; and the form of what is left of a string, by that number.
 -- Assumes nothing.
 use mathlib.Core.Path.{_≡_}
 use mathlib.Core.Bool.{Bool, true, false, _&&_, _||_, not}
 use mathlib.Core.List.{List}
 use Prim.Native.Nat.{ℕ, zero, suc, _+_, _-_, _*_, _/_, _%_, _≤_}
+use Prim.Native.Char.{code}
 use lib.Dec.{eqb, ltb}
 use lib.ListN.{length}
 use Rattle.base.specs.If.{if_then_else_}
@@ -36,7 +37,8 @@ nested Else k = if eqb (k % 4) 2 then Go (k + 1) else Stop
 nested End k = if ltb (k % 4) 2 then Stop else Go (k / 4)
 nested Wrong k = Stop
 
--- the form from place i on, with the number k kept; the count falls with each item, and the string's length and one is enough
+-- the form from place i on, with the number k kept; the count falls with each item, and the string's length and one
+-- is enough
 unfoldable pub checked : ℕ → List ℕ → ℕ → ℕ → Form
 checked zero s i k = F.Wrong i
 checked (suc f) s i k =
@@ -50,7 +52,8 @@ formLeft s i k = checked (suc (length s)) s i k
 
 -- ---- passing over items
 
--- passing from place i, with the number k kept, answers r: the place passed to with the number kept there, or the place of a wrong item
+-- passing from place i, with the number k kept, answers r: the place passed to with the number kept there, or the
+-- place of a wrong item
 abbrev pub PassedAs : List ℕ → ℕ → ℕ → Bool → Passed → Type 0
 PassedAs s i k elses (P.To next k′) =
     (passed (length s) elses s i 0 ≡ next) × ((formLeft s i k ≡ formLeft s next k′) × ((i ≤ next) × (k′ ≤ nestedMost)))
@@ -58,14 +61,14 @@ PassedAs s i k elses (P.Wrong p) = formLeft s i k ≡ F.Wrong p
 
 -- the place behind the bytes from i on that are items by themselves
 abbrev pub isPlain : ℕ → Bool
-isPlain c = not (eqb c 0) && not (eqb c 37)
+isPlain c = not (eqb c 0) && not (eqb c (code "%"))
 
 abbrev pub plainEnd : List ℕ → ℕ → ℕ
 plainEnd s i = scan (λ k. isPlain (byteAt s k)) i (length s - i)
 
 -- `%;` stands at i
 abbrev pub endsAt : List ℕ → ℕ → Bool
-endsAt s i = eqb (byteAt s i) 37 && eqb (byteAt s (i + 1)) 59
+endsAt s i = eqb (byteAt s i) (code "%") && eqb (byteAt s (i + 1)) (code ";")
 
 -- ---- the walk over items
 
@@ -73,17 +76,18 @@ endsAt s i = eqb (byteAt s i) 37 && eqb (byteAt s (i + 1)) 59
 abbrev pub keptMost : ℕ
 keptMost = 9223372036854775808
 
--- what an item does to the number d of inner conditionals open. The walk stops behind the level's own `%;` where ends is set, and behind its
--- own `%e` where elses is set
-unfoldable pub opening : Bool → Bool → Class → ℕ → Turn
-opening ends elses Plain d = Go d
-opening ends elses If d = Go (d + 1)
-opening ends elses Then d = Go d
-opening ends elses Else d = if eqb d 0 && elses then Stop else Go d
-opening ends elses End d = if eqb d 0 then if ends then Stop else Go d else Go (d - 1)
-opening ends elses Wrong d = Go d
+-- what an item does to the number d of inner conditionals open. The walk stops behind the level's own `%;` where ends
+-- is set, and behind its own `%e` where elses is set
+unfoldable pub innerAfter : Bool → Bool → Class → ℕ → Turn
+innerAfter ends elses Plain d = Go d
+innerAfter ends elses If d = Go (d + 1)
+innerAfter ends elses Then d = Go d
+innerAfter ends elses Else d = if eqb d 0 && elses then Stop else Go d
+innerAfter ends elses End d = if eqb d 0 then if ends then Stop else Go d else Go (d - 1)
+innerAfter ends elses Wrong d = Go d
 
--- the walk from place i with the number k kept came to next with k′ kept; where ends is set, that is where passing leads
+-- the walk from place i with the number k kept came to next with k′ kept; where ends is set, that is where passing
+-- leads
 pub record Came (s : List ℕ) (i k : ℕ) (ends elses : Bool) (next k′ : ℕ) : Type 0 where
   pub form : formLeft s i k ≡ formLeft s next k′
   pub place : ends ≡ true → passed (length s) elses s i 0 ≡ next

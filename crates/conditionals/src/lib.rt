@@ -1,10 +1,11 @@
-// The form of a parameterized string, checked item by item, and passing over items (document 01: Expansion; Numbers of refusal, 14).
-// Proved: `nest` is nested, `form_from` is formLeft and `pass` is as PassedAs says, of specs/, for each string and place. Assumed: nothing.
-// The number kept along the items holds the open conditionals, two bits each, the innermost lowest: 1 a condition from `%?` on, 2 a body,
-// 3 what follows `%e`.
+// The form of a parameterized string, checked item by item, and passing over items (document 01: Expansion; Numbers
+// of refusal, 14). Proved: `nest` is nested, `form_from` is formLeft and `pass` is as PassedAs says, of specs/, for
+// each string and place. Assumed: nothing. The number kept along the items holds the open conditionals, two bits
+// each, the innermost lowest: 1 a condition from `%?` on, 2 a body, 3 what follows `%e`.
 ghost use mathlib.Core.Path.{_≡_};
 ghost use Prim.Native.Nat.{_≤_, _<_};
-ghost use Rattle.conditionals.specs.Walk.{nestedMost, keptMost, nested, formLeft, opening, plainEnd, endsAt, WalkedAs, PassedAs};
+ghost use Rattle.conditionals.specs.Walk.{nestedMost, keptMost, nested, formLeft, innerAfter, plainEnd, endsAt};
+ghost use Rattle.conditionals.specs.Walk.{WalkedAs, PassedAs};
 use expansion::Class;
 use expansion::Form;
 
@@ -61,10 +62,11 @@ pub fn nest(class: Class, kept: u64) -> Turn
     }
 }
 
-// What an item of a class does to the number of inner conditionals open; at 0, `%;` stops if ends is set, and `%e` if elses is.
+// What an item of a class does to the number of inner conditionals open; at 0, `%;` stops if ends is set, and `%e` if
+// elses is.
 fn opened(class: Class, ends: bool, elses: bool, inner: u64) -> Turn
     requires { ⌜ inner < keptMost ⌝ }
-    ensures { λ r. ⌜ r ≡ opening ends elses class inner ⌝ }
+    ensures { λ r. ⌜ r ≡ innerAfter ends elses class inner ⌝ }
 {
     match class {
         Class::Plain => Turn::Go(inner),

@@ -7,10 +7,11 @@ use Prim.Native.Nat.{ℕ, _+_, _≤_, _<_}
 use native.Mathlib.Omega.{arith}
 use native.Mathlib.Nat.{add-zero}
 use lib.ListN.{length, getD, set, length-append}
-use Rattle.base.specs.If.{below-or}
-use Rattle.base.specs.Overwrite.{putAt, put-nil, put-store, length-put}
-use Rattle.text.specs.declared.Item.the-variants.{End, Byte, Removed, Malformed}
-use Rattle.text.specs.Strings.{itemAt, stored, Reading, Read, malformed, readFrom, readAt, bytesOf}
+use Rattle.base.proofs.IfLaws.{below-or}
+use Rattle.base.specs.Overwrite.{putAt}
+use Rattle.base.proofs.OverwriteLaws.{put-nil, put-store, length-put}
+use Rattle.text.specs.declared.StringItem.the-variants.{End, Byte, Removed, Malformed}
+use Rattle.text.specs.Strings.{stringItemAt, storedByte, Reading, Read, malformed, readFrom, readAt, bytesOf}
 use Rattle.text_laws.specs.Reads.{item-past, read-end, read-malformed, read-byte, read-removed, read-grows, read-all}
 use Rattle.contents.specs.Fits.{Fits}
 use Rattle.contents.specs.Usual.{isSpecial, isEscape}
@@ -45,7 +46,7 @@ module _ {t : List ℕ} {from i : ℕ} {b₀ b : List ℕ} {at p size : ℕ} (f 
       let r = w .room in
       ap (λ (x : List ℕ). length x) (f .held) ∙ length-put b₀ at (f .done) (omega arith)
 
-  pub filled-malformed : itemAt t i ≡ Malformed → ⊥
+  pub filled-malformed : stringItemAt t i ≡ Malformed → ⊥
   filled-malformed e = right-yet (read-malformed t so-far e)
 
   pub filled-within : i < length t
@@ -60,7 +61,7 @@ module _ {t : List ℕ} {from i : ℕ} {b₀ b : List ℕ} {at p size : ℕ} (f 
       let n : length (f .done) ≡ length (bytesOf (readFrom t so-far)) = omega arith in
       f .held ∙ ap (putAt b₀ at) (read-all t so-far right-yet n ∙ ap bytesOf (f .same))
 
-  pub filled-removed : (k : ℕ) → itemAt t i ≡ Removed k → Filled t from k b₀ b at p
+  pub filled-removed : (k : ℕ) → stringItemAt t i ≡ Removed k → Filled t from k b₀ b at p
   filled-removed k e = record {
     done = f .done;
     same = sym (read-removed t so-far k e) ∙ f .same;
@@ -73,7 +74,7 @@ module _ {t : List ℕ} {from i : ℕ} {b₀ b : List ℕ} {at p size : ℕ} (f 
     pub filled-room : p < length b
     filled-room = let n = filled-length in let r = w .room in omega arith
 
-    pub filled-before : itemAt t i ≡ End → ⊥
+    pub filled-before : stringItemAt t i ≡ End → ⊥
     unfolding bytesOf
     filled-before e =
         let n = ap (λ (r : Read). length (bytesOf r)) (sym (read-end t so-far e) ∙ f .same) in
@@ -81,14 +82,14 @@ module _ {t : List ℕ} {from i : ℕ} {b₀ b : List ℕ} {at p size : ℕ} (f 
         let h = f .place in
         omega arith
 
-    pub filled-byte : (v k : ℕ) → itemAt t i ≡ Byte v k → Filled t from k b₀ (set b p (stored v)) at (p + 1)
+    pub filled-byte : (v k : ℕ) → stringItemAt t i ≡ Byte v k → Filled t from k b₀ (set b p (storedByte v)) at (p + 1)
     filled-byte v k e = record {
-      done = f .done ++ (stored v ∷ []);
+      done = f .done ++ (storedByte v ∷ []);
       same = sym (read-byte t so-far v k e) ∙ f .same;
-      place = let n = length-append (f .done) (stored v ∷ []) in let h = f .place in omega arith;
+      place = let n = length-append (f .done) (storedByte v ∷ []) in let h = f .place in omega arith;
       held =
           let r = w .room in
-          put-store b₀ b at p (stored v) (f .done) (f .done ++ (stored v ∷ [])) (f .held) (f .place) refl (omega arith);
+          put-store b₀ b at p (storedByte v) (f .done) (f .done ++ (storedByte v ∷ [])) (f .held) (f .place) refl (omega arith);
     }
 
     pub filled-itself : isSpecial (getD t i 0) ≡ false → Filled t from (i + 1) b₀ (set b p (getD t i 0)) at (p + 1)
@@ -97,5 +98,5 @@ module _ {t : List ℕ} {from i : ℕ} {b₀ b : List ℕ} {at p size : ℕ} (f 
         (filled-byte (getD t i 0) (i + 1) (item-itself t i filled-malformed filled-before h))
 
     pub filled-escape : isEscape t i ≡ true → Filled t from (i + 2) b₀ (set b p 27) at (p + 1)
-    unfolding stored
+    unfolding storedByte
     filled-escape h = filled-byte 27 (i + 2) (item-escape t i h)

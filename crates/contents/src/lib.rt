@@ -1,15 +1,15 @@
-// The content of a string of source text, counted and put into a buffer (document 01: Source text). Proved: each function answers every
-// text and place as text/specs says. Assumed: nothing.
+// The content of a string of source text, counted and put into a buffer (document 01: Source text). Proved: each
+// function answers every text and place as text/specs says. Assumed: nothing.
 ghost use mathlib.Core.Path.{_≡_};
 ghost use Prim.Native.Nat.{_+_, _<_, _^_};
 ghost use lib.ListN.{length};
 ghost use Rattle.base.specs.Overwrite.{putAt};
-ghost use Rattle.text.specs.Strings.{stored, readAt, bytesOf, contentOf};
+ghost use Rattle.text.specs.Strings.{storedByte, readAt, bytesOf, contentOf};
 ghost use Rattle.contents.specs.Fits.{Fits};
 ghost use Rattle.contents.specs.Usual.{isPlain, isEscape, isSpecial};
 use escapes::item_at;
 use text::Content;
-use text::Item;
+use text::StringItem;
 use text_bytes::byte_at;
 
 // A byte of a string that stands for itself.
@@ -51,17 +51,17 @@ pub fn content_at(text: &[u8], at: usize) -> Content
             i += 2;
         } else {
             match item_at(text, i) {
-                Item::End => {
+                StringItem::End => {
                     return Content::Whole(n, i);
                 }
-                Item::Byte(_, k) => {
+                StringItem::Byte(_, k) => {
                     n += 1;
                     i = k;
                 }
-                Item::Removed(k) => {
+                StringItem::Removed(k) => {
                     i = k;
                 }
-                Item::Malformed => {
+                StringItem::Malformed => {
                     return Content::Malformed;
                 }
             }
@@ -72,7 +72,7 @@ pub fn content_at(text: &[u8], at: usize) -> Content
 
 // A byte of a string as it is stored.
 fn stored_byte(b: u8) -> u8
-    ensures { λ r. ⌜ r ≡ stored b ⌝ }
+    ensures { λ r. ⌜ r ≡ storedByte b ⌝ }
 {
     if b == 0 { 128 } else { b }
 }
@@ -107,18 +107,18 @@ pub fn put_read(b: &mut [u8], at: usize, text: &[u8], from: usize, size: usize)
             i += 2;
         } else {
             match item_at(text, i) {
-                Item::End => {
+                StringItem::End => {
                     return;
                 }
-                Item::Byte(v, k) => {
+                StringItem::Byte(v, k) => {
                     b[p] = stored_byte(v);
                     p += 1;
                     i = k;
                 }
-                Item::Removed(k) => {
+                StringItem::Removed(k) => {
                     i = k;
                 }
-                Item::Malformed => {
+                StringItem::Malformed => {
                     return;
                 }
             }

@@ -28,7 +28,8 @@ openingOf e s = record { tables = tablesOf s; beyond = beyondOf e s }
 unfoldable pub opening : Edition → List ℕ → Answer Opening
 opening e f = if not (okEdition e) then refused 3 [] else mapAnswer (openingOf e) (reading f)
 
--- "An asked place beyond the edition is 17"; so is a file that opening refuses
+-- "An asked place beyond the edition is 17". Left free by document 01: a place of a file that opening refuses. It is 17
+-- too, since a file with an edition is an entry made without opening, "one that opening wouldn't give for its bytes"
 unfoldable pub asking : {A : Type 0} → Edition → List ℕ → Bool → A → Answer A
 asking e f known x = if isGiven (opening e f) && known then gives x else refused 17 []
 
@@ -44,7 +45,8 @@ askingNumber e f p = asking e f (knows (e .numbers) p) (numberIn f (sizesOf f) p
 abbrev pub askingString : Edition → List ℕ → Place → Answer (State Part)
 askingString e f p = asking e f (knows (e .strings) p) (partIn f (sizesOf f) p)
 
--- "A present string is handed back as that part of the caller's bytes": in every other case the empty part at the file's start
+-- "A present string is handed back as that part of the caller's bytes": in every other case the empty part at the
+-- file's start
 abbrev pub partGiven : Answer (State Part) → Part
 partGiven (refused n v) = record { start = 0; length = 0 }
 partGiven (gives State.absent) = record { start = 0; length = 0 }

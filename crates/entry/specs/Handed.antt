@@ -4,7 +4,8 @@ use mathlib.Core.List.{List, []}
 use Prim.Native.Nat.{ℕ}
 use Rattle.entry.specs.Writing.{Handed}
 
-abbrev pub handed : (names booleanKinds numberKinds numberValues stringKinds stringStarts stringLengths lent : List ℕ) → Handed
+abbrev pub handed : (names booleanKinds numberKinds numberValues stringKinds stringStarts stringLengths lent : List ℕ)
+    → Handed
 handed names booleanKinds numberKinds numberValues stringKinds stringStarts stringLengths lent =
     record {
       names = names;
@@ -18,7 +19,8 @@ handed names booleanKinds numberKinds numberValues stringKinds stringStarts stri
     }
 
 -- the states without the names
-abbrev pub statesHanded : (booleanKinds numberKinds numberValues stringKinds stringStarts stringLengths lent : List ℕ) → Handed
+abbrev pub statesHanded : (booleanKinds numberKinds numberValues stringKinds stringStarts stringLengths lent : List ℕ)
+    → Handed
 statesHanded booleanKinds numberKinds numberValues stringKinds stringStarts stringLengths lent =
     handed [] booleanKinds numberKinds numberValues stringKinds stringStarts stringLengths lent
 
@@ -39,4 +41,5 @@ frontHanded names booleanKinds numberKinds numberValues stringKinds stringLength
 -- the same with other lent bytes
 abbrev pub withLent : Handed → List ℕ → Handed
 withLent h lent =
-    handed (h .names) (h .booleanKinds) (h .numberKinds) (h .numberValues) (h .stringKinds) (h .stringStarts) (h .stringLengths) lent
+    handed (h .names) (h .booleanKinds) (h .numberKinds) (h .numberValues) (h .stringKinds) (h .stringStarts)
+    (h .stringLengths) lent

@@ -14,7 +14,15 @@ abbrev pub shortIn : List ℕ → ℕ → ℕ
 shortIn f i = word shortWidth f (shortWidth * i)
 
 unfoldable pub sizesOf : List ℕ → Sizes
-sizesOf f = record { names = shortIn f 1; booleans = shortIn f 2; numbers = shortIn f 3; strings = shortIn f 4; table = shortIn f 5 }
+sizesOf f =
+    record {
+      names = shortIn f 1;
+      booleans = shortIn f 2;
+      numbers = shortIn f 3;
+      strings = shortIn f 4;
+      table
+          = shortIn f 5;
+    }
 
 -- "Then names with a closing NUL; one byte per boolean"
 abbrev pub booleansAt : Sizes → ℕ
@@ -53,4 +61,10 @@ tablesOf s =
 
 -- "per list, how many slots lie beyond the reader's edition"; a difference below 0 is 0
 unfoldable pub beyondOf : Edition → Sizes → Beyond
-beyondOf e s = record { booleans = s .booleans - e .booleans; numbers = s .numbers - e .numbers; strings = s .strings - e .strings }
+beyondOf e s =
+    record {
+      booleans = s .booleans - e .booleans;
+      numbers = s .numbers - e .numbers;
+      strings = s .strings - e
+          .strings;
+    }

@@ -30,8 +30,8 @@ mergedNumber a b p = over (numberIn a (sizesOf a) p) (numberIn b (sizesOf b) p)
 abbrev pub mergedString : List ℕ → List ℕ → Place → State (List ℕ)
 mergedString a b p = over (stringIn a (sizesOf a) p) (stringIn b (sizesOf b) p)
 
--- "What merging two accepted files in an edition gives is A's names and, at each place that it knows, A's state there unless absent,
--- then B's": slots past the edition are dropped, contents of any length are kept
+-- "What merging two accepted files in an edition gives is A's names and, at each place that it knows, A's state there
+-- unless absent, then B's": slots past the edition are dropped, contents of any length are kept
 unfoldable pub merged : Edition → List ℕ → List ℕ → Entry
 merged e a b =
     record {

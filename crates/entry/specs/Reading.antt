@@ -1,5 +1,5 @@
--- Reading a compiled entry: what is accepted, in the order of refusal, and what an accepted file says (document 01: Compiled entry,
--- Numbers of refusal). A place past the file's slots is absent.
+-- Reading a compiled entry: what is accepted, in the order of refusal, and what an accepted file says (document 01:
+-- Compiled entry, Numbers of refusal). A place past the file's slots is absent.
 -- Assumes nothing.
 use mathlib.Core.Bool.{Bool, _&&_, _||_, not}
 use mathlib.Core.List.{List, []}
@@ -8,16 +8,15 @@ use lib.Dec.{eqb, ltb, leb}
 use lib.ListN.{length, getD, take, drop}
 use Rattle.base.specs.If.{if_then_else_}
 use Rattle.base.specs.Scan.{every}
-use Rattle.base.specs.Tabulate.{tabulate}
 use Rattle.word.specs.Word.{word}
 pub use Rattle.word.specs.Nul.{nulFrom}
 use Rattle.edition.specs.declared.Edition.{Edition}
 use Rattle.edition.specs.declared.Place.{Place}
-use Rattle.edition.specs.Edition.{place}
 use Rattle.entry.specs.declared.Sizes.{Sizes}
 use Rattle.entry.specs.declared.Offset.{Offset}
 use Rattle.entry.specs.declared.Part.{Part}
-use Rattle.entry.specs.Limits.{magic, headerSize, fileMost, shortMost, namesLeast, namesMost, numberWidth, offsetWidth}
+use Rattle.entry.specs.Limits.{magic, headerSize, fileMost, shortMost, namesLeast, namesMost, numberWidth}
+use Rattle.entry.specs.Limits.{offsetWidth}
 use Rattle.entry.specs.State.{State, absent, mapState, half, slotOf, okSlot, okBoolean, booleanOf}
 use Rattle.base.specs.Answer.{Answer, refused, gives}
 use Rattle.entry.specs.Layout.{shortIn, sizesOf, booleansAt, padOf, numbersAt, stringsAt, tableAt, sizeOf}
@@ -35,7 +34,8 @@ offset c = record { 0 = c }
 unfoldable pub okCounts : Sizes → Bool
 okCounts s =
     leb namesLeast (s .names) && (leb (s .names) namesMost
-    && (leb (s .booleans) shortMost && (leb (s .numbers) shortMost && (leb (s .strings) shortMost && leb (s .table) shortMost))))
+    && (leb (s .booleans) shortMost && (leb (s .numbers) shortMost
+    && (leb (s .strings) shortMost && leb (s .table) shortMost))))
 
 -- "the NUL, which is its only NUL": the first NUL of the names is their last byte
 unfoldable pub okNames : List ℕ → Sizes → Bool
@@ -50,14 +50,18 @@ okPad f s = eqb (padOf s) 0 || eqb (getD f (booleansAt s + s .booleans) 0) 0
 
 -- "0 to 32,767 present; 65,535 absent; 65,534 cancelled; others refused"
 unfoldable pub okNumbers : List ℕ → Sizes → Bool
-okNumbers f s = every (λ i. okSlot numberWidth (λ c. ltb c (half numberWidth)) (word numberWidth f (numbersAt s + numberWidth * i))) (s .numbers)
+okNumbers f s =
+    every (λ i. okSlot numberWidth (λ c. ltb c (half numberWidth))
+    (word numberWidth f (numbersAt s + numberWidth * i))) (s .numbers)
 
 -- "an offset below the table size with a NUL at or after it in the table"
 unfoldable pub okOffset : List ℕ → Sizes → Offset → Bool
 okOffset f s o = ltb (o .0) (s .table) && ltb (nulFrom f (tableAt s + o .0) (sizeOf s)) (sizeOf s)
 
 unfoldable pub okStrings : List ℕ → Sizes → Bool
-okStrings f s = every (λ i. okSlot offsetWidth (λ c. okOffset f s (offset c)) (word offsetWidth f (stringsAt s + offsetWidth * i))) (s .strings)
+okStrings f s =
+    every (λ i. okSlot offsetWidth (λ c. okOffset f s (offset c))
+    (word offsetWidth f (stringsAt s + offsetWidth * i))) (s .strings)
 
 -- "1 (below 12, above 4,096), 2, 3, 1 (size), 4, 5, 6, 7"
 unfoldable pub reading : List ℕ → Answer Sizes
@@ -93,7 +97,8 @@ offsetIn f s p = mapState offset (slotIn offsetWidth f (stringsAt s) (s .strings
 
 -- "The content runs to the first NUL"
 unfoldable pub contentAt : List ℕ → Sizes → Offset → Part
-contentAt f s o = record { start = tableAt s + o .0; length = nulFrom f (tableAt s + o .0) (sizeOf s) - (tableAt s + o .0) }
+contentAt f s o =
+    record { start = tableAt s + o .0; length = nulFrom f (tableAt s + o .0) (sizeOf s) - (tableAt s + o .0) }
 
 unfoldable pub partIn : List ℕ → Sizes → Place → State Part
 partIn f s p = mapState (contentAt f s) (offsetIn f s p)
@@ -122,13 +127,3 @@ heldString x p = getD (x .strings) (p .0) absent
 -- the edition that an entry has a state for each place of
 abbrev pub editionOf : Entry → Edition
 editionOf x = record { booleans = length (x .booleans); numbers = length (x .numbers); strings = length (x .strings) }
-
--- what an edition sees in an accepted file: the names and, for each place that it knows, a state
-unfoldable pub view : Edition → List ℕ → Entry
-view e f =
-    record {
-      names = bytesOf f (namesPart (sizesOf f));
-      booleans = tabulate (λ i. booleanIn f (sizesOf f) (place i)) (e .booleans);
-      numbers = tabulate (λ i. numberIn f (sizesOf f) (place i)) (e .numbers);
-      strings = tabulate (λ i. stringIn f (sizesOf f) (place i)) (e .strings);
-    }

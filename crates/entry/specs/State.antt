@@ -7,7 +7,8 @@ use lib.Dec.{eqb, ltb}
 use Rattle.base.specs.If.{if_then_else_}
 use Rattle.entry.specs.Limits.{cancelledByte}
 
--- "A capability is absent, cancelled, or present": a boolean bare (Unit), a number with its value, a string with its bytes
+-- "A capability is absent, cancelled, or present": a boolean bare (Unit), a number with its value, a string with its
+-- bytes
 pub data State (A : Type 0) : Type 0 where
   absent : State A
   cancelled : State A

@@ -1,4 +1,5 @@
--- The written form of an entry, and what writing gives (document 01: Compiled entry; Numbers of refusal, order of writing).
+-- The written form of an entry, and what writing gives (document 01: Compiled entry; Numbers of refusal, order of
+-- writing).
 -- Assumes nothing.
 use mathlib.Core.Bool.{Bool, _&&_, _||_, not}
 use mathlib.Core.List.{List, [], _∷_, _++_, map}
@@ -14,14 +15,15 @@ use Rattle.edition.specs.declared.Edition.{Edition}
 use Rattle.edition.specs.Edition.{okEdition}
 use Rattle.entry.specs.declared.Sizes.{Sizes}
 use Rattle.entry.specs.declared.Offset.{Offset}
-use Rattle.entry.specs.Limits.{magic, fileMost, shortWidth, numberWidth, offsetWidth, numberMost, givenNamesMost, contentMost}
+use Rattle.entry.specs.Limits.{magic, fileMost, shortWidth, numberWidth, offsetWidth, numberMost}
+use Rattle.entry.specs.Limits.{givenNamesMost, contentMost}
 use Rattle.entry.specs.State.{State, absent, cancelled, present, mapState, codeOf, booleanCode}
 use Rattle.base.specs.Answer.{Answer, refused, gives}
 use Rattle.entry.specs.Layout.{padOf}
 use Rattle.entry.specs.Reading.{Entry, offset}
 
--- ---- the written form: "exactly the edition's slots, the present strings in list order, unshared, each with its NUL, no other
--- table byte"
+-- ---- the written form: "exactly the edition's slots, the present strings in list order, unshared, each with its
+-- NUL, no other table byte"
 
 -- the string slots, where the next present string starts at o
 unfoldable pub offsets : Offset → List (State (List ℕ)) → List (State Offset)
@@ -97,7 +99,9 @@ abbrev pub numberHanded : Handed → ℕ → State ℕ
 numberHanded h i = stateOf (getD (h .numberKinds) i 0) (getD (h .numberValues) i 0)
 
 abbrev pub stringHanded : Handed → ℕ → State (List ℕ)
-stringHanded h i = stateOf (getD (h .stringKinds) i 0) (take (getD (h .stringLengths) i 0) (drop (getD (h .stringStarts) i 0) (h .lent)))
+stringHanded h i =
+    stateOf (getD (h .stringKinds) i 0) (take (getD (h .stringLengths) i 0)
+    (drop (getD (h .stringStarts) i 0) (h .lent)))
 
 -- the entry handed over, in an edition: "surplus ones unread"
 unfoldable pub entryOf : Edition → Handed → Entry
@@ -123,9 +127,12 @@ enoughStates e h =
 unfoldable pub namesFit : List ℕ → Bool
 namesFit n = leb 1 (length n) && (leb (length n) givenNamesMost && eqb (nulFrom n 0 (length n)) (length n))
 
--- a string is in what was lent: its start plus its length doesn't pass the lent bytes; only a present state has a string
+-- a string is in what was lent: its start plus its length doesn't pass the lent bytes; only a present state has a
+-- string
 unfoldable pub isLent : Handed → ℕ → Bool
-isLent h i = not (eqb (getD (h .stringKinds) i 0) 1) || leb (getD (h .stringStarts) i 0 + getD (h .stringLengths) i 0) (length (h .lent))
+isLent h i =
+    not (eqb (getD (h .stringKinds) i 0) 1) || leb (getD (h .stringStarts) i 0 + getD (h .stringLengths) i 0)
+    (length (h .lent))
 
 -- "its numbers at most 32,767, its string contents 0 to 1,000 bytes without NUL, each state one of the three"
 unfoldable pub numberFits : State ℕ → Bool

@@ -1,4 +1,5 @@
-// The compiled entry's numbers and types: what calls take and what they answer. The meaning of all of them is in specs/.
+// The compiled entry's numbers and types: what calls take and what they answer. The meaning of all of them is in
+// specs/.
 
 // The header's first short.
 pub const MAGIC: usize = 282;
@@ -62,8 +63,8 @@ pub struct Sizes {
     pub table: usize,
 }
 
-// Where an accepted file's tables start and how many slots each list has. The names start at byte 12, and the string table ends
-// where the file ends.
+// Where an accepted file's tables start and how many slots each list has. The names start at byte 12, and the string
+// table ends where the file ends.
 pub struct Tables {
     pub booleans: usize,
     pub numbers: usize,
@@ -93,7 +94,8 @@ pub enum FileRefusal {
     Length,
     // 2: magic not 282
     Magic,
-    // 3: a header short above 32,767, or a names size outside 2 to 128; of opening and merging, also an edition that is too large
+    // 3: a header short above 32,767, or a names size outside 2 to 128; of opening and merging, also an edition that
+    // is too large
     Counts,
     // 4: names
     Names,

@@ -8,18 +8,21 @@ use native.Mathlib.Omega.{arith}
 use lib.Dec.{eqb, ltb, leb}
 use lib.ListN.{length, length-take, length-drop}
 use borrow.Author.Tests.{ltb-true, leb-true, eqb-true, eq-eqb, le-leb}
-use Rattle.base.specs.If.{if_then_else_, and-left, and-right}
-use Rattle.base.specs.Scan.{scan-ge}
+use Rattle.base.specs.If.{if_then_else_}
+use Rattle.base.proofs.IfLaws.{and-left, and-right}
+use Rattle.base.proofs.ScanLaws.{scan-ge}
 use Rattle.word.specs.Word.{word}
 use Rattle.word.specs.Nul.{notNul, nulFrom}
 use Rattle.edition.specs.declared.Place.{Place}
 use Rattle.entry.specs.declared.Sizes.{Sizes}
 use Rattle.entry.specs.declared.Offset.{Offset}
-use Rattle.entry.specs.Limits.{magic, headerSize, fileMost, namesLeast, namesMost, givenNamesMost, numberWidth, offsetWidth, shortWidth}
+use Rattle.entry.specs.Limits.{magic, headerSize, fileMost, namesLeast, namesMost, givenNamesMost, numberWidth}
+use Rattle.entry.specs.Limits.{offsetWidth, shortWidth}
 use Rattle.entry.specs.State.{State, absent, cancelled, present, mapState, half}
 use Rattle.base.specs.Answer.{Answer, refused, gives}
 use Rattle.entry.specs.Layout.{sizesOf, booleansAt, numbersAt, stringsAt, tableAt, sizeOf}
-use Rattle.entry.specs.Reading.{bytesOf, offset, okCounts, okNames, okBooleans, okPad, okNumbers, okOffset, okStrings, reading, namesPart, slotIn, numberIn, offsetIn, contentAt, partIn, stringIn}
+use Rattle.entry.specs.Reading.{bytesOf, offset, okCounts, okNames, okBooleans, okPad, okNumbers, okOffset, okStrings}
+use Rattle.entry.specs.Reading.{reading, namesPart, slotIn, numberIn, offsetIn, contentAt, partIn, stringIn}
 use Rattle.entry_laws.specs.Sound.{NoNul, NumberFits, ContentFree}
 use Rattle.entry_laws.specs.Nul.{before-nul-free}
 use Rattle.entry_laws.specs.Slots.{Passes, slots-pass}
@@ -37,10 +40,10 @@ pub record Accepted (f : List ℕ) : Type 0 where
   pub strings : okStrings f (sizesOf f) ≡ true
 
 -- an answer that is given passed the test that would have refused it
-pub passed : {A : Type 0} (t : Bool) (n : ℕ) (v : List ℕ) (a : Answer A) (x : A)
+pub test-passed : {A : Type 0} (t : Bool) (n : ℕ) (v : List ℕ) (a : Answer A) (x : A)
     → (if not t then refused n v else a) ≡ gives x → (t ≡ true) × (a ≡ gives x)
-passed true n v a x e = (refl, e)
-passed false n v a x e = absurd (let z : _≡_ {A = ℕ} 0 1 = cc in (let y : ⊥ = omega arith in y))
+test-passed true n v a x e = (refl, e)
+test-passed false n v a x e = absurd (let z : _≡_ {A = ℕ} 0 1 = cc in (let y : ⊥ = omega arith in y))
 
 pub accepted-facts : (f : List ℕ) (s : Sizes) → reading f ≡ gives s → Accepted f
 unfolding reading
@@ -55,14 +58,14 @@ accepted-facts f s e =
     let a₄ : Answer Sizes = if not (eqb (length f) (sizeOf z)) then refused 1 [] else a₅ in
     let a₃ : Answer Sizes = if not (okCounts z) then refused 3 [] else a₄ in
     let a₂ : Answer Sizes = if not (eqb (word shortWidth f 0) magic) then refused 2 [] else a₃ in
-    let p₁ = passed lengths 1 [] a₂ s e in
-    let p₂ = passed (eqb (word shortWidth f 0) magic) 2 [] a₃ s (p₁ .1) in
-    let p₃ = passed (okCounts z) 3 [] a₄ s (p₂ .1) in
-    let p₄ = passed (eqb (length f) (sizeOf z)) 1 [] a₅ s (p₃ .1) in
-    let p₅ = passed (okNames f z) 4 [] a₆ s (p₄ .1) in
-    let p₆ = passed tables 5 [] a₇ s (p₅ .1) in
-    let p₇ = passed (okNumbers f z) 6 [] a₈ s (p₆ .1) in
-    let p₈ = passed (okStrings f z) 7 [] (gives z) s (p₇ .1) in
+    let p₁ = test-passed lengths 1 [] a₂ s e in
+    let p₂ = test-passed (eqb (word shortWidth f 0) magic) 2 [] a₃ s (p₁ .1) in
+    let p₃ = test-passed (okCounts z) 3 [] a₄ s (p₂ .1) in
+    let p₄ = test-passed (eqb (length f) (sizeOf z)) 1 [] a₅ s (p₃ .1) in
+    let p₅ = test-passed (okNames f z) 4 [] a₆ s (p₄ .1) in
+    let p₆ = test-passed tables 5 [] a₇ s (p₅ .1) in
+    let p₇ = test-passed (okNumbers f z) 6 [] a₈ s (p₆ .1) in
+    let p₈ = test-passed (okStrings f z) 7 [] (gives z) s (p₇ .1) in
     record {
       least = leb-true _ _ (and-left (leb headerSize (length f)) _ (p₁ .0));
       most = leb-true _ _ (and-right (leb headerSize (length f)) _ (p₁ .0));
@@ -104,15 +107,18 @@ counts-names-least s h = leb-true _ _ (and-left (leb namesLeast (s .names)) _ h)
 
 pub counts-names-most : (s : Sizes) → okCounts s ≡ true → s .names ≤ namesMost
 unfolding okCounts
-counts-names-most s h = leb-true _ _ (and-left (leb (s .names) namesMost) _ (and-right (leb namesLeast (s .names)) _ h))
+counts-names-most s h =
+    leb-true _ _ (and-left (leb (s .names) namesMost) _ (and-right (leb namesLeast (s .names)) _ h))
 
 -- ---- contents, numbers and names
 
 content-free : (f : List ℕ) (s : Sizes) (o : Offset) → NoNul (bytesOf f (contentAt f s o))
 unfolding contentAt
 content-free f s o =
-    let g : tableAt s + o .0 ≤ nulFrom f (tableAt s + o .0) (sizeOf s) = scan-ge (notNul f) (tableAt s + o .0) (sizeOf s - (tableAt s + o .0)) in
-    before-nul-free f (tableAt s + o .0) (sizeOf s) (nulFrom f (tableAt s + o .0) (sizeOf s) - (tableAt s + o .0)) (omega arith)
+    let g : tableAt s + o .0 ≤ nulFrom f (tableAt s + o .0) (sizeOf s)
+    = scan-ge (notNul f) (tableAt s + o .0) (sizeOf s - (tableAt s + o .0)) in
+    before-nul-free f (tableAt s + o .0) (sizeOf s) (nulFrom f (tableAt s + o .0) (sizeOf s) - (tableAt s + o .0))
+    (omega arith)
 
 -- contents hold no NUL, whatever the file
 pub string-free : (f : List ℕ) (s : Sizes) (p : Place) → ContentFree (stringIn f s p)
@@ -129,7 +135,8 @@ module _ (f : List ℕ) (a : Accepted f) where
   unfolding numberIn okNumbers
   number-fits p =
       by-slot (slotIn numberWidth f (numbersAt (sizesOf f)) (sizesOf f .numbers) p)
-      (slots-pass numberWidth (λ c. ltb c (half numberWidth)) f (numbersAt (sizesOf f)) (sizesOf f .numbers) (a .numbers) p)
+      (slots-pass numberWidth (λ c. ltb c (half numberWidth)) f (numbersAt (sizesOf f)) (sizesOf f .numbers)
+      (a .numbers) p)
     where
       by-slot : (t : State ℕ) → Passes (λ c. ltb c (half numberWidth)) t → NumberFits t
       by-slot absent h = tt
@@ -137,9 +144,13 @@ module _ (f : List ℕ) (a : Accepted f) where
       by-slot (present n) h = let l : n < half numberWidth = ltb-true n (half numberWidth) h in omega arith
 
   -- an offset that a slot presents is good
-  pub offset-fits : (p : Place) → Passes (λ c. okOffset f (sizesOf f) (offset c)) (slotIn offsetWidth f (stringsAt (sizesOf f)) (sizesOf f .strings) p)
+  pub offset-fits : (p : Place)
+      → Passes (λ c. okOffset f (sizesOf f) (offset c))
+      (slotIn offsetWidth f (stringsAt (sizesOf f)) (sizesOf f .strings) p)
   unfolding okStrings
-  offset-fits p = slots-pass offsetWidth (λ c. okOffset f (sizesOf f) (offset c)) f (stringsAt (sizesOf f)) (sizesOf f .strings) (a .strings) p
+  offset-fits p =
+      slots-pass offsetWidth (λ c. okOffset f (sizesOf f) (offset c)) f (stringsAt (sizesOf f)) (sizesOf f .strings)
+      (a .strings) p
 
   pub names-length : length (bytesOf f (namesPart (sizesOf f))) ≡ sizesOf f .names - 1
   unfolding namesPart
@@ -149,10 +160,14 @@ module _ (f : List ℕ) (a : Accepted f) where
       rw (length-take, length-drop) (omega arith)
 
   pub names-least : 1 ≤ length (bytesOf f (namesPart (sizesOf f)))
-  names-least = let n : namesLeast ≤ sizesOf f .names = counts-names-least (sizesOf f) (a .counts) in rw names-length (omega arith)
+  names-least =
+      let n : namesLeast ≤ sizesOf f .names = counts-names-least (sizesOf f) (a .counts) in
+      rw names-length (omega arith)
 
   pub names-most : length (bytesOf f (namesPart (sizesOf f))) ≤ givenNamesMost
-  names-most = let n : sizesOf f .names ≤ namesMost = counts-names-most (sizesOf f) (a .counts) in rw names-length (omega arith)
+  names-most =
+      let n : sizesOf f .names ≤ namesMost = counts-names-most (sizesOf f) (a .counts) in
+      rw names-length (omega arith)
 
   pub names-free : NoNul (bytesOf f (namesPart (sizesOf f)))
   unfolding namesPart okNames

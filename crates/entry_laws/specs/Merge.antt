@@ -9,8 +9,9 @@ use native.Mathlib.Omega.{arith}
 use lib.Dec.{leb}
 use lib.ListN.{length, getD, length-append}
 use borrow.Author.Tests.{leb-true, le-leb}
-use Rattle.base.specs.If.{true-false, and-left, and-right}
-use Rattle.base.specs.Tabulate.{tabulate, length-tabulate, getD-tabulate, each-tabulate}
+use Rattle.base.proofs.IfLaws.{true-false, and-left, and-right}
+use Rattle.base.specs.Tabulate.{tabulate}
+use Rattle.base.proofs.TabulateLaws.{length-tabulate, getD-tabulate, each-tabulate}
 use Rattle.edition.specs.declared.Edition.{Edition}
 use Rattle.edition.specs.Edition.{okEdition, place, booleansMost, numbersMost, stringsMost, NoMore}
 use Rattle.entry.specs.declared.Sizes.{Sizes}
@@ -23,7 +24,8 @@ use Rattle.entry.specs.Writing.{stringTable, sizesFor, encode}
 use Rattle.entry.specs.Merging.{over, mergedBoolean, mergedNumber, mergedString, merged}
 use Rattle.entry_laws.specs.Sound.{Sound, NumberFits, ContentFree}
 use Rattle.entry_laws.specs.Parts.{length-encode}
-use Rattle.entry_laws.specs.Accepted.{Accepted, accepted-facts, string-free, number-fits, names-least, names-most, names-free}
+use Rattle.entry_laws.specs.Accepted.{Accepted, accepted-facts, string-free, number-fits, names-least}
+use Rattle.entry_laws.specs.Accepted.{names-most, names-free}
 
 -- ---- states
 
@@ -37,7 +39,8 @@ over-has P (present x) t p q = p
 -- ---- acceptance
 
 -- an answer that goes on from another is given only where that one is
-pub andThen-gives : {A B : Type 0} (a : Answer A) (b : Answer B) (x : B) → andThen a b ≡ gives x → (isGiven a ≡ true) × (b ≡ gives x)
+pub andThen-gives : {A B : Type 0} (a : Answer A) (b : Answer B) (x : B) → andThen a b ≡ gives x
+    → (isGiven a ≡ true) × (b ≡ gives x)
 andThen-gives (refused n v) b x e = absurd (let z : _≡_ {A = ℕ} 0 1 = cc in (let y : ⊥ = omega arith in y))
 andThen-gives (gives s) b x e = (refl, e)
 
@@ -64,7 +67,8 @@ merged-edition e a b =
     }
 
 -- a merge of accepted files that fits has a written form
-pub merged-sound : (e : Edition) (a b : List ℕ) → okEdition e ≡ true → Accepted a → Accepted b → length (encode (merged e a b)) ≤ fileMost → Sound (merged e a b)
+pub merged-sound : (e : Edition) (a b : List ℕ) → okEdition e ≡ true → Accepted a → Accepted b
+    → length (encode (merged e a b)) ≤ fileMost → Sound (merged e a b)
 unfolding merged
 merged-sound e a b o p q h =
     record {
@@ -75,18 +79,23 @@ merged-sound e a b o p q h =
       numbersFit = each-tabulate NumberFits (λ i. mergedNumber a b (place i)) (e .numbers) absent
           (λ i l. over-has NumberFits _ _ (number-fits a p (place i)) (number-fits b q (place i)));
       stringsFree = each-tabulate ContentFree (λ i. mergedString a b (place i)) (e .strings) absent
-          (λ i l. over-has ContentFree _ _ (string-free a (sizesOf a) (place i)) (string-free b (sizesOf b) (place i)));
+          (λ i l.
+          over-has ContentFree _ _ (string-free a (sizesOf a) (place i)) (string-free b (sizesOf b) (place i)));
       fits = h;
     }
 
 -- ---- editions
 
-pub edition-counts : (e : Edition) → okEdition e ≡ true → (e .booleans ≤ booleansMost) × ((e .numbers ≤ numbersMost) × (e .strings ≤ stringsMost))
+pub edition-counts : (e : Edition) → okEdition e ≡ true
+    → (e .booleans ≤ booleansMost) × ((e .numbers ≤ numbersMost) × (e .strings ≤ stringsMost))
 unfolding okEdition
 edition-counts e o =
     let t = and-right (leb (e .booleans) booleansMost) _ o in (
       leb-true _ _ (and-left (leb (e .booleans) booleansMost) _ o),
-      (leb-true _ _ (and-left (leb (e .numbers) numbersMost) _ t), leb-true _ _ (and-right (leb (e .numbers) numbersMost) _ t)),
+      (
+        leb-true _ _ (and-left (leb (e .numbers) numbersMost) _ t),
+        leb-true _ _ (and-right (leb (e .numbers) numbersMost) _ t),
+      ),
     )
 
 pub edition-no-more : (r e : Edition) → NoMore r e → okEdition e ≡ true → okEdition r ≡ true
@@ -96,31 +105,45 @@ edition-no-more r e k o =
     let x = k .booleans in
     let y = k .numbers in
     let z = k .strings in
-    rw (le-leb (r .booleans) booleansMost (omega arith), le-leb (r .numbers) numbersMost (omega arith), le-leb (r .strings) stringsMost (omega arith))
+    rw (
+      le-leb (r .booleans) booleansMost (omega arith),
+      le-leb (r .numbers) numbersMost (omega arith),
+      le-leb (r .strings) stringsMost (omega arith),
+    )
 
 -- a list tabulated further holds the same at each place below
-pub same-below : {A : Type 0} (g : ℕ → A) (n m i : ℕ) (d : A) → n ≤ m → i < n → getD (tabulate g m) i d ≡ getD (tabulate g n) i d
+pub same-below : {A : Type 0} (g : ℕ → A) (n m i : ℕ) (d : A) → n ≤ m → i < n
+    → getD (tabulate g m) i d ≡ getD (tabulate g n) i d
 same-below g n m i d h l = getD-tabulate g m i d (omega arith) ∙ sym (getD-tabulate g n i d l)
 
-table-grows : (g : ℕ → State (List ℕ)) (n m : ℕ) → n ≤ m → length (stringTable (tabulate g n)) ≤ length (stringTable (tabulate g m))
+table-grows : (g : ℕ → State (List ℕ)) (n m : ℕ) → n ≤ m
+    → length (stringTable (tabulate g n)) ≤ length (stringTable (tabulate g m))
 unfolding tabulate stringTable
 table-grows g zero m h = omega arith
 table-grows g (suc n) zero h = absurd (not-suc-le-zero h)
 table-grows g (suc n) (suc m) h = by-first (g 0) (table-grows (λ i. g (suc i)) n m (le-of-suc-le-suc h))
   where
-    by-first : (s : State (List ℕ)) → length (stringTable (tabulate (λ i. g (suc i)) n)) ≤ length (stringTable (tabulate (λ i. g (suc i)) m))
-        → length (stringTable (s ∷ tabulate (λ i. g (suc i)) n)) ≤ length (stringTable (s ∷ tabulate (λ i. g (suc i)) m))
+    by-first : (s : State (List ℕ))
+        → length (stringTable (tabulate (λ i. g (suc i)) n)) ≤ length (stringTable (tabulate (λ i. g (suc i)) m))
+        → length (stringTable (s ∷ tabulate (λ i. g (suc i)) n))
+        ≤ length (stringTable (s ∷ tabulate (λ i. g (suc i)) m))
     by-first absent ih = ih
     by-first cancelled ih = ih
-    by-first (present t) ih = rw (length-append t (0 ∷ stringTable (tabulate (λ i. g (suc i)) n)), length-append t (0 ∷ stringTable (tabulate (λ i. g (suc i)) m))) (omega arith)
+    by-first (present t) ih =
+        rw (
+          length-append t (0 ∷ stringTable (tabulate (λ i. g (suc i)) n)),
+          length-append t (0 ∷ stringTable (tabulate (λ i. g (suc i)) m)),
+        ) (omega arith)
 
 -- the merge of an edition that knows no more is no longer
-pub merged-size : (e r : Edition) (a b : List ℕ) → NoMore r e → length (encode (merged r a b)) ≤ length (encode (merged e a b))
+pub merged-size : (e r : Edition) (a b : List ℕ) → NoMore r e
+    → length (encode (merged r a b)) ≤ length (encode (merged e a b))
 unfolding sizesFor merged
 merged-size e r a b k =
     let x = k .booleans in
     let y = k .numbers in
     let z = k .strings in
     let g : ℕ → State (List ℕ) = λ i. mergedString a b (place i) in
-    let t : length (stringTable (tabulate g (r .strings))) ≤ length (stringTable (tabulate g (e .strings))) = table-grows g (r .strings) (e .strings) z in
+    let t : length (stringTable (tabulate g (r .strings))) ≤ length (stringTable (tabulate g (e .strings)))
+    = table-grows g (r .strings) (e .strings) z in
     simp (length-encode (merged r a b), length-encode (merged e a b), length-tabulate) (omega arith)

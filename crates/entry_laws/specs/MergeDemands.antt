@@ -1,5 +1,6 @@
--- Demands 2 and 3 for merged files, over the definitions that the calls' contracts name. The files merged are any accepted files: shared or
--- overlapping strings, unreached table bytes, contents above 1,000 bytes, more slots than the edition or fewer are all covered.
+-- Demands 2 and 3 for merged files, over the definitions that the calls' contracts name. The files merged are any
+-- accepted files: shared or overlapping strings, unreached table bytes, contents above 1,000 bytes, more slots than
+-- the edition or fewer are all covered.
 -- Assumes nothing.
 use mathlib.Core.Path.{_≡_, refl, ap, _∙_}
 use mathlib.Core.Bool.{Bool, true, false, not}
@@ -20,9 +21,10 @@ use Rattle.entry.specs.Reading.{reading}
 use Rattle.entry.specs.Writing.{encode}
 use Rattle.entry.specs.Merging.{mergedBoolean, mergedNumber, mergedString, merged, merging}
 use Rattle.entry_laws.specs.Sound.{WrittenIn}
-use Rattle.entry_laws.specs.Accepted.{passed}
+use Rattle.entry_laws.specs.Accepted.{test-passed}
 use Rattle.entry_laws.specs.Demands.{ReadsAsWritten, reads-as-written}
-use Rattle.entry_laws.specs.Merge.{andThen-gives, given-andThen, given-accepted, merged-edition, merged-sound, edition-no-more, same-below, merged-size}
+use Rattle.entry_laws.specs.Merge.{andThen-gives, given-andThen, given-accepted, merged-edition, merged-sound}
+use Rattle.entry_laws.specs.Merge.{edition-no-more, same-below, merged-size}
 
 -- demand 2: what a merge must meet, room apart
 pub record MergeMeets (e : Edition) (a b : List ℕ) : Type 0 where
@@ -33,13 +35,21 @@ pub record MergeMeets (e : Edition) (a b : List ℕ) : Type 0 where
 
 -- the answer of a merge that meets this, by the room
 by-room : (e : Edition) (a b : List ℕ) (room : ℕ) → MergeMeets e a b
-    → merging e a b room ≡ (if not (leb (length (encode (merged e a b))) room) then refused 8 (length (encode (merged e a b)) ∷ []) else gives (encode (merged e a b)))
+    → merging e a b room
+    ≡ (if not (leb (length (encode (merged e a b))) room) then refused 8 (length (encode (merged e a b)) ∷ [])
+    else gives (encode (merged e a b)))
 unfolding merging
 by-room e a b room m =
-    rw (m .edition, given-andThen (reading a) _ (m .first), given-andThen (reading b) _ (m .second), le-leb (length (encode (merged e a b))) fileMost (m .size))
+    rw (
+      m .edition,
+      given-andThen (reading a) _ (m .first),
+      given-andThen (reading b) _ (m .second),
+      le-leb (length (encode (merged e a b))) fileMost (m .size),
+    )
 
 -- "A file is written exactly when .."
-pub merged-if : (e : Edition) (a b : List ℕ) (room : ℕ) → MergeMeets e a b → length (encode (merged e a b)) ≤ room → merging e a b room ≡ gives (encode (merged e a b))
+pub merged-if : (e : Edition) (a b : List ℕ) (room : ℕ) → MergeMeets e a b → length (encode (merged e a b)) ≤ room
+    → merging e a b room ≡ gives (encode (merged e a b))
 merged-if e a b room m h = by-room e a b room m ∙ rw (le-leb (length (encode (merged e a b))) room h)
 
 pub merged-only-if : (e : Edition) (a b : List ℕ) (room : ℕ) (f : List ℕ) → merging e a b room ≡ gives f
@@ -49,16 +59,19 @@ merged-only-if e a b room f w =
     let n : ℕ = length (encode (merged e a b)) in
     let a₅ : Answer (List ℕ) = if not (leb n room) then refused 8 (n ∷ []) else gives (encode (merged e a b)) in
     let a₄ : Answer (List ℕ) = if not (leb n fileMost) then refused 9 [] else a₅ in
-    let p₁ = passed (okEdition e) 3 [] (andThen (reading a) (andThen (reading b) a₄)) f w in
+    let p₁ = test-passed (okEdition e) 3 [] (andThen (reading a) (andThen (reading b) a₄)) f w in
     let p₂ = andThen-gives (reading a) (andThen (reading b) a₄) f (p₁ .1) in
     let p₃ = andThen-gives (reading b) a₄ f (p₂ .1) in
-    let p₄ = passed (leb n fileMost) 9 [] a₅ f (p₃ .1) in
-    let p₅ = passed (leb n room) 8 (n ∷ []) (gives (encode (merged e a b))) f (p₄ .1) in
-    (record { edition = p₁ .0; first = p₂ .0; second = p₃ .0; size = leb-true _ _ (p₄ .0) }, (leb-true _ _ (p₅ .0), (cc (p₅ .1))))
+    let p₄ = test-passed (leb n fileMost) 9 [] a₅ f (p₃ .1) in
+    let p₅ = test-passed (leb n room) 8 (n ∷ []) (gives (encode (merged e a b))) f (p₄ .1) in (
+      record { edition = p₁ .0; first = p₂ .0; second = p₃ .0; size = leb-true _ _ (p₄ .0) },
+      (leb-true _ _ (p₅ .0), (cc (p₅ .1))),
+    )
 
--- a merged file is written in its edition and holds what merging gives; so `read-back`, `reads-as-written` and `same-answers` of
+-- a merged file is written in its edition and holds what merging gives; so `reads-as-written` and `same-answers` of
 -- Demands.antt hold of it
-pub merged-holds : (e : Edition) (a b : List ℕ) (room : ℕ) (f : List ℕ) → merging e a b room ≡ gives f → WrittenIn e (merged e a b) f
+pub merged-holds : (e : Edition) (a b : List ℕ) (room : ℕ) (f : List ℕ) → merging e a b room ≡ gives f
+    → WrittenIn e (merged e a b) f
 merged-holds e a b room f w =
     let p = merged-only-if e a b room f w in
     let m : MergeMeets e a b = p .0 in
@@ -68,19 +81,31 @@ merged-holds e a b room f w =
       file = p .1 .1;
     }
 
--- "Whatever two files are merged, if the merged file is written, a reader that knows no more in any list than the merging edition sees in
--- it exactly the names, states and contents that merging the originals in its own edition gives"
-pub merged-seen : (e r : Edition) (a b : List ℕ) (room : ℕ) (f : List ℕ) → NoMore r e → merging e a b room ≡ gives f → ReadsAsWritten r (merged r a b) f
+-- "Whatever two files are merged, if the merged file is written, a reader that knows no more in any list than the
+-- merging edition sees in it exactly the names, states and contents that merging the originals in its own edition
+-- gives"
+pub merged-seen : (e r : Edition) (a b : List ℕ) (room : ℕ) (f : List ℕ) → NoMore r e → merging e a b room ≡ gives f
+    → ReadsAsWritten r (merged r a b) f
 unfolding merged
 merged-seen e r a b room f k w =
     let m : MergeMeets e a b = merged-only-if e a b room f w .0 in
-    let s : ReadsAsWritten r (merged e a b) f = reads-as-written e (merged e a b) f (merged-holds e a b room f w) r (edition-no-more r e k (m .edition)) in
+    let s : ReadsAsWritten r (merged e a b) f
+    = reads-as-written e (merged e a b) f (merged-holds e a b room f w) r (edition-no-more r e k (m .edition)) in
     record {
       opens = s .opens;
       names = s .names;
-      booleans = λ p t. s .booleans p t ∙ ap gives (same-below (λ i. mergedBoolean a b (place i)) (r .booleans) (e .booleans) (p .0) absent (k .booleans) (ltb-true _ _ t));
-      numbers = λ p t. s .numbers p t ∙ ap gives (same-below (λ i. mergedNumber a b (place i)) (r .numbers) (e .numbers) (p .0) absent (k .numbers) (ltb-true _ _ t));
-      strings = λ p t. s .strings p t ∙ ap gives (same-below (λ i. mergedString a b (place i)) (r .strings) (e .strings) (p .0) absent (k .strings) (ltb-true _ _ t));
+      booleans = λ p t.
+          s .booleans p t
+          ∙ ap gives (same-below (λ i. mergedBoolean a b (place i)) (r .booleans) (e .booleans) (p .0) absent
+          (k .booleans) (ltb-true _ _ t));
+      numbers = λ p t.
+          s .numbers p t
+          ∙ ap gives (same-below (λ i. mergedNumber a b (place i)) (r .numbers) (e .numbers) (p .0) absent
+          (k .numbers) (ltb-true _ _ t));
+      strings = λ p t.
+          s .strings p t
+          ∙ ap gives (same-below (λ i. mergedString a b (place i)) (r .strings) (e .strings) (p .0) absent
+          (k .strings) (ltb-true _ _ t));
     }
 
 -- "its own merge is then refused, if at all, only for room (8)"
@@ -90,10 +115,16 @@ own-merge e r a b room own f k w =
     let m : MergeMeets e a b = merged-only-if e a b room f w .0 in
     let l = merged-size e r a b k in
     let z = m .size in
-    let n : MergeMeets r a b = record { edition = edition-no-more r e k (m .edition); first = m .first; second = m .second; size = omega arith } in
-    rw (by-room r a b own n) (by-test (leb (length (encode (merged r a b))) own))
+    let n : MergeMeets r a b
+    = record {
+      edition = edition-no-more r e k (m .edition);
+      first = m .first;
+      second = m .second;
+      size = omega arith;
+    } in
+    rw (by-room r a b own n) (by-test (leb (length (encode (merged r a b))) own) (encode (merged r a b)))
   where
-    by-test : (t : Bool) → (numberOf (if not t then refused 8 (length (encode (merged r a b)) ∷ []) else gives (encode (merged r a b))) ≡ 0)
-        ⊎ (numberOf (if not t then refused 8 (length (encode (merged r a b)) ∷ []) else gives (encode (merged r a b))) ≡ 8)
-    by-test true = inl refl
-    by-test false = inr refl
+    by-test : (t : Bool) (x : List ℕ) → (numberOf (if not t then refused 8 (length x ∷ []) else gives x) ≡ 0)
+        ⊎ (numberOf (if not t then refused 8 (length x ∷ []) else gives x) ≡ 8)
+    by-test true x = inl refl
+    by-test false x = inr refl

@@ -9,9 +9,10 @@ use lib.Dec.{eqb}
 use lib.ListN.{length, getD, take, drop, length-append, length-take}
 use lib.Seq.{getD-take, getD-drop, getD-at, append-snoc}
 use borrow.Author.Tests.{eq-eqb, ne-eqb, not-true}
-use Rattle.base.specs.If.{true-false}
-use Rattle.base.specs.Scan.{scan, scan-before, scan-pass, scan-stop, scan-start, every-at, every-all}
-use Rattle.base.specs.Tabulate.{each-of, each-at}
+use Rattle.base.proofs.IfLaws.{true-false}
+use Rattle.base.specs.Scan.{scan}
+use Rattle.base.proofs.ScanLaws.{scan-before, scan-pass, scan-stop, scan-start, every-at, every-all}
+use Rattle.base.proofs.TabulateLaws.{each-of, each-at}
 use Rattle.word.specs.Nul.{notNul, nulFrom}
 use Rattle.entry_laws.specs.Sound.{NoNul}
 
@@ -30,7 +31,8 @@ pub before-nul-free : (f : List ℕ) (a e k : ℕ) → a + k ≤ nulFrom f a e �
 before-nul-free f a e k h = part-free f a k (λ j l r. scan-before (notNul f) a (e - a) j l (omega arith))
 
 -- the first NUL behind bytes without one
-pub nul-behind : (s f before after : List ℕ) (p k : ℕ) → f ≡ before ++ (s ++ (0 ∷ after)) → length before ≡ p → NoNul s → length s < k
+pub nul-behind : (s f before after : List ℕ) (p k : ℕ) → f ≡ before ++ (s ++ (0 ∷ after)) → length before ≡ p
+    → NoNul s → length s < k
     → scan (notNul f) p k ≡ p + length s
 nul-behind [] f before after p k e l n h =
     let g : getD f p 0 ≡ 0 = rw e (getD-at before 0 after 0 p l) in
@@ -49,7 +51,8 @@ nul-whole s = sym (scan-start (notNul s) (length s))
 
 pub free-test : (s : List ℕ) → NoNul s → eqb (nulFrom s 0 (length s)) (length s) ≡ true
 free-test s n =
-    rw (nul-whole s) (every-all (notNul s) (length s) (λ i h. rw (ne-eqb (getD s i 0) 0 (each-at (λ b. b ≡ 0 → ⊥) s i 0 n h))))
+    rw (nul-whole s) (every-all (notNul s) (length s) (λ i h.
+    rw (ne-eqb (getD s i 0) 0 (each-at (λ b. b ≡ 0 → ⊥) s i 0 n h))))
 
 pub test-free : (s : List ℕ) → eqb (nulFrom s 0 (length s)) (length s) ≡ true → NoNul s
 test-free s h =

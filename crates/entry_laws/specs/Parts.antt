@@ -118,30 +118,48 @@ module _ (x : Entry) where
 
   pub starts-booleans : length (beforeBooleans x) ≡ booleansAt (sizesFor x)
   unfolding sizesFor
-  starts-booleans = rw (length-append (headerPart x) (namesWithNul x), starts-names, length-append (x .names) (0 ∷ []))
+  starts-booleans =
+      rw (length-append (headerPart x) (namesWithNul x), starts-names, length-append (x .names) (0 ∷ []))
 
   pub starts-pad : length (beforePad x) ≡ booleansAt (sizesFor x) + sizesFor x .booleans
   unfolding sizesFor
-  starts-pad = rw (length-append (beforeBooleans x) (booleansPart x), starts-booleans, length-map (x .booleans) booleanCode)
+  starts-pad =
+      rw (length-append (beforeBooleans x) (booleansPart x), starts-booleans, length-map (x .booleans) booleanCode)
 
   pub starts-numbers : length (beforeNumbers x) ≡ numbersAt (sizesFor x)
-  starts-numbers = rw (length-append (beforePad x) (padPart x), starts-pad, length-padding (sizesFor x .names + sizesFor x .booleans))
+  starts-numbers =
+      rw (
+        length-append (beforePad x) (padPart x),
+        starts-pad,
+        length-padding (sizesFor x .names + sizesFor x .booleans),
+      )
 
   pub length-numberCodes : length (numberCodes x) ≡ length (x .numbers)
   length-numberCodes = length-map (x .numbers) numberCode
 
   pub length-offsetCodes : length (offsetCodes x) ≡ length (x .strings)
-  length-offsetCodes = length-map (offsets (offset 0) (x .strings)) offsetCode ∙ length-offsets (offset 0) (x .strings)
+  length-offsetCodes =
+      length-map (offsets (offset 0) (x .strings)) offsetCode ∙ length-offsets (offset 0) (x .strings)
 
   pub starts-strings : length (beforeStrings x) ≡ stringsAt (sizesFor x)
   unfolding sizesFor
   starts-strings =
-      rw (length-append (beforeNumbers x) (words numberWidth (numberCodes x)), starts-numbers, length-words numberWidth (numberCodes x), length-numberCodes)
+      rw (
+        length-append (beforeNumbers x) (words numberWidth (numberCodes x)),
+        starts-numbers,
+        length-words numberWidth (numberCodes x),
+        length-numberCodes,
+      )
 
   pub starts-table : length (beforeTable x) ≡ tableAt (sizesFor x)
   unfolding sizesFor
   starts-table =
-      rw (length-append (beforeStrings x) (words offsetWidth (offsetCodes x)), starts-strings, length-words offsetWidth (offsetCodes x), length-offsetCodes)
+      rw (
+        length-append (beforeStrings x) (words offsetWidth (offsetCodes x)),
+        starts-strings,
+        length-words offsetWidth (offsetCodes x),
+        length-offsetCodes,
+      )
 
   pub length-encode : length (encode x) ≡ sizeOf (sizesFor x)
   unfolding sizesFor
@@ -149,12 +167,14 @@ module _ (x : Entry) where
 
 -- ---- reading inside a part of a file
 
-pub part-at : (f before part after : List ℕ) (p i d : ℕ) → f ≡ before ++ (part ++ after) → length before ≡ p → i < length part
+pub part-at : (f before part after : List ℕ) (p i d : ℕ) → f ≡ before ++ (part ++ after) → length before ≡ p
+    → i < length part
     → getD f (p + i) d ≡ getD part i d
 part-at f before part after p i d e l h =
     rw (e, ← l, getD-append-add before (part ++ after) i d) (List·getD-append part after d i h)
 
-pub part-word : (w : ℕ) (f before ns after : List ℕ) (p i d : ℕ) → f ≡ before ++ (words w ns ++ after) → length before ≡ p → Below (256 ^ w) ns
+pub part-word : (w : ℕ) (f before ns after : List ℕ) (p i d : ℕ) → f ≡ before ++ (words w ns ++ after)
+    → length before ≡ p → Below (256 ^ w) ns
     → i < length ns → word w f (p + w * i) ≡ getD ns i d
 part-word w f before ns after p i d e l b h =
     rw (e, ← l, word-skip w before (words w ns ++ after) (w * i)) (word-words w ns after i d b h)

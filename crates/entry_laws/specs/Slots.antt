@@ -9,12 +9,16 @@ use native.Mathlib.Omega.{arith}
 use lib.Dec.{eqb, lit<}
 use lib.ListN.{length, getD, length-map, List·getD-map, List·getD-eq-default}
 use borrow.Author.Tests.{eq-eqb, ne-eqb, lt-ltb, le-ltb}
-use Rattle.base.specs.If.{if_then_else_, true-false, below-or}
-use Rattle.base.specs.Scan.{every, every-at, every-all}
-use Rattle.base.specs.Tabulate.{Each, each-at}
+use Rattle.base.specs.If.{if_then_else_}
+use Rattle.base.proofs.IfLaws.{true-false, below-or}
+use Rattle.base.specs.Scan.{every}
+use Rattle.base.proofs.ScanLaws.{every-at, every-all}
+use Rattle.base.specs.Tabulate.{Each}
+use Rattle.base.proofs.TabulateLaws.{each-at}
 use Rattle.word.specs.Word.{word, words, Below}
 use Rattle.edition.specs.declared.Place.{Place}
-use Rattle.entry.specs.State.{State, absent, cancelled, present, absentMark, cancelledMark, slotOf, codeOf, okSlot, okBoolean, booleanOf, booleanCode}
+use Rattle.entry.specs.State.{State, absent, cancelled, present, absentMark, cancelledMark, slotOf, codeOf, okSlot}
+use Rattle.entry.specs.State.{okBoolean, booleanOf, booleanCode}
 use Rattle.entry.specs.Reading.{slotIn}
 use Rattle.entry_laws.specs.Parts.{part-word}
 
@@ -65,7 +69,8 @@ pub slot-passes : (w : ℕ) (ok : ℕ → Bool) (c : ℕ) → okSlot w ok c ≡ 
 unfolding slotOf okSlot
 slot-passes w ok c h = by-tests (ok c) (eqb c (absentMark w)) (eqb c (cancelledMark w)) refl h
   where
-    by-tests : (t a b : Bool) → ok c ≡ t → (t || (a || b)) ≡ true → Passes ok (if a then absent else if b then cancelled else present c)
+    by-tests : (t a b : Bool) → ok c ≡ t → (t || (a || b)) ≡ true
+        → Passes ok (if a then absent else if b then cancelled else present c)
     by-tests t true b e k = tt
     by-tests t false true e k = tt
     by-tests true false false e k = e
@@ -81,12 +86,14 @@ module _ (w : ℕ) (f : List ℕ) (base n : ℕ) (p : Place) where
   slot-in h = rw (lt-ltb (p .0) n h)
 
 -- each slot of a table whose slots were all judged
-pub slots-pass : (w : ℕ) (ok : ℕ → Bool) (f : List ℕ) (base n : ℕ) → every (λ i. okSlot w ok (word w f (base + w * i))) n ≡ true
+pub slots-pass : (w : ℕ) (ok : ℕ → Bool) (f : List ℕ) (base n : ℕ)
+    → every (λ i. okSlot w ok (word w f (base + w * i))) n ≡ true
     → (p : Place) → Passes ok (slotIn w f base n p)
 slots-pass w ok f base n e p =
     below-or (p .0) n
     (λ h. rw (slot-in w f base n p h)
-    (slot-passes w ok (word w f (base + w * p .0)) (every-at (λ i. okSlot w ok (word w f (base + w * i))) n (p .0) e h)))
+    (slot-passes w ok (word w f (base + w * p .0))
+    (every-at (λ i. okSlot w ok (word w f (base + w * i))) n (p .0) e h)))
     (λ h. rw (slot-past w f base n p h) tt)
 
 -- ---- a table of slots that is written: the elements of xs say the states g gives
@@ -96,11 +103,13 @@ module _ {A : Type 0} (w : ℕ) (g : A → State ℕ) (wide : 0 < w) where
   codes-below [] b = tt
   codes-below (x ∷ xs) b = (code-below w (g x) wide (b .0), codes-below xs (b .1))
 
-  module _ (xs : List A) (d : A) (f before after : List ℕ) (base : ℕ) (at : f ≡ before ++ (words w (map (λ a. codeOf w (g a)) xs) ++ after))
+  module _ (xs : List A) (d : A) (f before after : List ℕ) (base : ℕ)
+      (at : f ≡ before ++ (words w (map (λ a. codeOf w (g a)) xs) ++ after))
       (starts : length before ≡ base) (below : Each (λ a. BelowMarks w (g a)) xs) where
     code-at : (i : ℕ) → i < length xs → word w f (base + w * i) ≡ codeOf w (g (getD xs i d))
     code-at i h =
-        part-word w f before (map (λ a. codeOf w (g a)) xs) after base i (codeOf w (g d)) at starts (codes-below xs below)
+        part-word w f before (map (λ a. codeOf w (g a)) xs) after base i (codeOf w (g d)) at starts
+        (codes-below xs below)
         (rw (length-map xs (λ a. codeOf w (g a))) h)
         ∙ List·getD-map (λ a. codeOf w (g a)) xs i d
 
@@ -113,7 +122,8 @@ module _ {A : Type 0} (w : ℕ) (g : A → State ℕ) (wide : 0 < w) where
         (λ h. rw (slot-past w f base (length xs) p h, List·getD-eq-default xs d h) (sym e))
 
     -- each is judged good
-    pub slots-ok : (ok : ℕ → Bool) → Each (λ a. Passes ok (g a)) xs → every (λ i. okSlot w ok (word w f (base + w * i))) (length xs) ≡ true
+    pub slots-ok : (ok : ℕ → Bool) → Each (λ a. Passes ok (g a)) xs
+        → every (λ i. okSlot w ok (word w f (base + w * i))) (length xs) ≡ true
     slots-ok ok pass =
         every-all (λ i. okSlot w ok (word w f (base + w * i))) (length xs) (λ i h.
         rw (code-at i h) (ok-code w ok (g (getD xs i d)) (each-at (λ a. Passes ok (g a)) xs i d pass h)))

@@ -26,8 +26,8 @@ ContentFree absent = Unit {0}
 ContentFree cancelled = Unit {0}
 ContentFree (present s) = NoNul s
 
--- an entry that has a written form. Contents may have any length: 1,000 bytes is the writer's and the text's limit (13) alone, and
--- a merge keeps longer ones.
+-- an entry that has a written form. Contents may have any length: 1,000 bytes is the writer's and the text's limit
+-- (13) alone, and a merge keeps longer ones.
 pub record Sound (x : Entry) : Type 0 where
   pub edition : okEdition (editionOf x) ≡ true
   pub named : 1 ≤ length (x .names)
@@ -37,8 +37,8 @@ pub record Sound (x : Entry) : Type 0 where
   pub stringsFree : Each ContentFree (x .strings)
   pub fits : length (encode x) ≤ fileMost
 
--- "A file written in an edition, by whatever call, holds names and, for each place that the edition knows, a state": f is written
--- in the edition e and holds x
+-- "A file written in an edition, by whatever call, holds names and, for each place that the edition knows, a state":
+-- f is written in the edition e and holds x
 pub record WrittenIn (e : Edition) (x : Entry) (f : List ℕ) : Type 0 where
   pub sound : Sound x
   pub edition : editionOf x ≡ e

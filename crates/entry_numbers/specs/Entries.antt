@@ -1,4 +1,5 @@
--- Entries that hold their file: which numbers opening gives them, and what asking them gives (document 01: Compiled entry).
+-- Entries that hold their file: which numbers opening gives them, and what asking them gives (document 01: Compiled
+-- entry).
 -- Assumes nothing.
 use mathlib.Core.Bool.{Bool, true, _&&_, _||_}
 use mathlib.Core.List.{List, []}
@@ -23,7 +24,16 @@ abbrev pub numbersOf : Edition → Answer Opening → EntryNumbers
 numbersOf e (refused n v) =
     record {
       edition = record { booleans = 0; numbers = 0; strings = 0 };
-      tables = record { booleans = 0; numbers = 0; strings = 0; «booleans_at» = 0; «numbers_at» = 0; «strings_at» = 0; «table_at» = 0 };
+      tables =
+          record {
+            booleans = 0;
+            numbers = 0;
+            strings = 0;
+            «booleans_at» = 0;
+            «numbers_at» = 0;
+            «strings_at» = 0;
+            «table_at» = 0;
+          };
       beyond = record { booleans = 0; numbers = 0; strings = 0 };
       refusal = n;
     }
@@ -48,11 +58,14 @@ unfoldable pub sameBeyond : Beyond → Beyond → Bool
 sameBeyond a b = eqb (a .booleans) (b .booleans) && (eqb (a .numbers) (b .numbers) && eqb (a .strings) (b .strings))
 
 unfoldable pub same : EntryNumbers → EntryNumbers → Bool
-same a b = sameEdition (a .edition) (b .edition) && (sameTables (a .tables) (b .tables) && (sameBeyond (a .beyond) (b .beyond) && eqb (a .refusal) (b .refusal)))
+same a b =
+    sameEdition (a .edition) (b .edition) && (sameTables (a .tables) (b .tables)
+    && (sameBeyond (a .beyond) (b .beyond) && eqb (a .refusal) (b .refusal)))
 
 -- ---- asking an entry of file f and numbers n
 
--- whether opening gives these numbers for f, in some edition: in their own, or refused where the edition was too large (3)
+-- whether opening gives these numbers for f, in some edition: in their own, or refused where the edition was too
+-- large (3)
 unfoldable pub fromOpening : List ℕ → EntryNumbers → Bool
 fromOpening f n = same n (opened (n .edition) f) || same n (numbersOf (n .edition) (refused 3 []))
 

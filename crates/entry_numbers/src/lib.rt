@@ -1,23 +1,28 @@
-// What opening gave for a file, as numbers, and the questions about them (document 01: Compiled entry): numbers that opening wouldn't give for
-// the file are answered 17. Proved: each function answers every file and all numbers as specs/ says. Assumed: nothing.
+// What opening gave for a file, as numbers, and the questions about them (document 01: Compiled entry): numbers that
+// opening wouldn't give for the file are answered 17. Proved: each function answers every file and all numbers as
+// specs/ says. Assumed: nothing.
 ghost use mathlib.Core.Path.{_≡_};
+ghost use Prim.Native.Nat.{_+_, _≤_};
+ghost use lib.ListN.{length};
 ghost use Rattle.entry.specs.Asking.{partGiven, namesGiven};
-ghost use Rattle.entry.specs.Says.{saysNames, saysBoolean, saysNumber, saysString, fileNumber, saysOpened};
+ghost use Rattle.entry.specs.Says.{saysNames, saysBoolean, saysNumber, saysString, saysOpened};
 ghost use Rattle.states.specs.Held.{IsPart};
-ghost use Rattle.entry_numbers.specs.Entries.{entryRefusal, entryNames, entryBoolean, entryNumber, entryString, entryBeyond, saysBeyond, numbersOf, opened, sameEdition, sameTables, sameBeyond, same};
+ghost use Rattle.entry_numbers.specs.Entries.{entryRefusal, entryNames, entryBoolean, entryNumber, entryString};
+ghost use Rattle.entry_numbers.specs.Entries.{entryBeyond, saysBeyond, numbersOf, opened, sameEdition};
+ghost use Rattle.entry_numbers.specs.Entries.{sameTables, sameBeyond, same};
 use edition::Edition;
 use edition::Place;
 use entry::Beyond;
 use entry::BooleanState;
-use entry::FileRefusal;
 use entry::Names;
 use entry::NumberState;
 use entry::Opened;
+use entry::Part;
 use entry::StringState;
 use entry::Tables;
 
-// What opening gave: the edition, the tables, the slots beyond the edition. On a refusal all are 0 but the refusal's number, which is 0
-// otherwise.
+// What opening gave: the edition, the tables, the slots beyond the edition. On a refusal all are 0 but the refusal's
+// number, which is 0 otherwise.
 pub struct EntryNumbers {
     edition: Edition,
     tables: Tables,
@@ -61,20 +66,6 @@ const EDITION_REFUSED: EntryNumbers = EntryNumbers {
     refusal: 3,
 };
 
-fn refusal_number(why: FileRefusal) -> usize
-    ensures { λ r. ⌜ r ≡ fileNumber why ⌝ }
-{
-    match why {
-        FileRefusal::Length => 1,
-        FileRefusal::Magic => 2,
-        FileRefusal::Counts => 3,
-        FileRefusal::Names => 4,
-        FileRefusal::Boolean => 5,
-        FileRefusal::Number => 6,
-        FileRefusal::Slot => 7,
-    }
-}
-
 // What opening in an edition answered, as numbers.
 fn numbers_of(edition: Edition, o: Opened) -> EntryNumbers
     ensures { λ r. ⌜ r ≡ numbersOf edition (saysOpened o) ⌝ }
@@ -86,12 +77,15 @@ fn numbers_of(edition: Edition, o: Opened) -> EntryNumbers
             beyond,
             refusal: 0,
         },
-        Opened::Refused(why) => EntryNumbers {
-            edition: NO_EDITION,
-            tables: NO_TABLES,
-            beyond: NO_BEYOND,
-            refusal: refusal_number(why),
-        },
+        Opened::Refused(why) => {
+            let refusal = refusal_numbers::of_file(why) as usize;
+            EntryNumbers {
+                edition: NO_EDITION,
+                tables: NO_TABLES,
+                beyond: NO_BEYOND,
+                refusal,
+            }
+        }
     }
 }
 
@@ -207,22 +201,33 @@ pub fn beyond_in(file: &[u8], n: EntryNumbers) -> BeyondEdition
     }
 }
 
-pub fn names_part_in(file: &[u8], n: EntryNumbers) -> &[u8]
-    ensures { λ r. ⌜ IsPart (file .entry) r (namesGiven (entryNames (now (file .entry)) n)) ⌝ }
+// The empty part at a file's start.
+const NO_PART: Part = Part {
+    start: 0,
+    length: 0,
+};
+
+// The bytes of names that lie in the file; the empty part at the file's start where they are refused. Names are never
+// empty.
+pub fn names_bytes(file: &[u8], names: Names) -> &[u8]
+    requires { ⌜ namesGiven (saysNames names) .start + namesGiven (saysNames names) .length ≤ length (now file) ⌝ }
+    ensures { λ r. ⌜ IsPart (file .entry) r (namesGiven (saysNames names)) ⌝ }
 {
-    match names_in(file, n) {
+    match names {
         Names::At(p) => states::part(file, p),
-        Names::Refused => states::part(file, states::NO_PART),
+        Names::Refused => states::part(file, NO_PART),
     }
 }
 
-pub fn string_part_in(file: &[u8], n: EntryNumbers, place: Place) -> &[u8]
-    ensures { λ r. ⌜ IsPart (file .entry) r (partGiven (entryString (now (file .entry)) n place)) ⌝ }
+// The bytes of a content that lies in the file; the empty part at the file's start where the state has none.
+pub fn string_bytes(file: &[u8], state: StringState) -> &[u8]
+    requires { ⌜ partGiven (saysString state) .start + partGiven (saysString state) .length ≤ length (now file) ⌝ }
+    ensures { λ r. ⌜ IsPart (file .entry) r (partGiven (saysString state)) ⌝ }
 {
-    match string_in(file, n, place) {
+    match state {
         StringState::Present(p) => states::part(file, p),
-        StringState::Absent => states::part(file, states::NO_PART),
-        StringState::Cancelled => states::part(file, states::NO_PART),
-        StringState::Refused => states::part(file, states::NO_PART),
+        StringState::Absent => states::part(file, NO_PART),
+        StringState::Cancelled => states::part(file, NO_PART),
+        StringState::Refused => states::part(file, NO_PART),
     }
 }

@@ -1,11 +1,11 @@
-// What stands at a place of a string of source text: a byte, an escape, a line end that is removed, the comma (document 01: Source text).
-// Proved: `item_at` is itemAt of text/specs. Assumed: nothing.
+// What stands at a place of a string of source text: a byte, an escape, a line end that is removed, the comma
+// (document 01: Source text). Proved: `item_at` is itemAt of text/specs. Assumed: nothing.
 ghost use mathlib.Core.Path.{_≡_};
 ghost use Prim.Native.Nat.{_+_, _≤_, _<_, _^_};
 ghost use lib.ListN.{length};
-ghost use Rattle.text.specs.Strings.{letterOf, isControl, octalOf, escapeAt, caretAt, lineEndAt, itemAt};
-use text::Class;
-use text::Item;
+ghost use Rattle.text.specs.Strings.{letterOf, isControl, octalOf, escapeAt, caretAt, lineEndAt, stringItemAt};
+use text::ByteClass;
+use text::StringItem;
 use text_bytes::byte_at;
 use text_bytes::digit;
 use text_bytes::is_in;
@@ -29,7 +29,7 @@ fn letter(b: u8) -> u8
 }
 
 // Octal digits of values a, b and c, the first of them at a place; 8 or more is no digit.
-fn octal(a: u8, b: u8, c: u8, at: usize) -> Item
+fn octal(a: u8, b: u8, c: u8, at: usize) -> StringItem
     requires { ⌜ (a < 8) × (at + 3 < 2 ^ 64) ⌝ }
     ensures { λ r. ⌜ r ≡ octalOf a b c at ⌝ }
 {
@@ -37,17 +37,17 @@ fn octal(a: u8, b: u8, c: u8, at: usize) -> Item
         if c < 8 {
             let v = a as usize * 64 + b as usize * 8 + c as usize;
             if v <= 255 {
-                return Item::Byte(v as u8, at + 3);
+                return StringItem::Byte(v as u8, at + 3);
             }
-            return Item::Malformed;
+            return StringItem::Malformed;
         }
-        return Item::Byte(a * 8 + b, at + 2);
+        return StringItem::Byte(a * 8 + b, at + 2);
     }
-    Item::Byte(a, at + 1)
+    StringItem::Byte(a, at + 1)
 }
 
 // Behind a backslash.
-fn escape_at(text: &[u8], at: usize) -> Item
+fn escape_at(text: &[u8], at: usize) -> StringItem
     requires { ⌜ at ≤ length (now text) ⌝ }
     ensures { λ r. ⌜ r ≡ escapeAt (now (text .entry)) at ⌝ }
 {
@@ -63,9 +63,9 @@ fn escape_at(text: &[u8], at: usize) -> Item
     }
     let v = letter(b);
     if v == 0 {
-        return Item::Malformed;
+        return StringItem::Malformed;
     }
-    Item::Byte(v, at + 1)
+    StringItem::Byte(v, at + 1)
 }
 
 // `^` and this byte are a control character.
@@ -79,43 +79,43 @@ fn is_control(b: u8) -> bool
 }
 
 // Behind a caret.
-fn caret_at(text: &[u8], at: usize) -> Item
+fn caret_at(text: &[u8], at: usize) -> StringItem
     requires { ⌜ at ≤ length (now text) ⌝ }
     ensures { λ r. ⌜ r ≡ caretAt (now (text .entry)) at ⌝ }
 {
     let b = byte_at(text, at);
     if b == b'?' {
-        return Item::Byte(127, at + 1);
+        return StringItem::Byte(127, at + 1);
     }
     if is_control(b) {
-        return Item::Byte(b % 32, at + 1);
+        return StringItem::Byte(b % 32, at + 1);
     }
-    Item::Malformed
+    StringItem::Malformed
 }
 
 // Behind a line end.
-fn line_end_at(text: &[u8], at: usize) -> Item
+fn line_end_at(text: &[u8], at: usize) -> StringItem
     requires { ⌜ at ≤ length (now text) ⌝ }
     ensures { λ r. ⌜ r ≡ lineEndAt (now (text .entry)) at ⌝ }
 {
-    if is_in(Class::Blank, byte_at(text, at)) {
-        return Item::Removed(run_end(text, Class::Blank, at + 1));
+    if is_in(ByteClass::Blank, byte_at(text, at)) {
+        return StringItem::Removed(run_end(text, ByteClass::Blank, at + 1));
     }
-    Item::Malformed
+    StringItem::Malformed
 }
 
 // What stands at a place of a string.
-pub fn item_at(text: &[u8], at: usize) -> Item
+pub fn item_at(text: &[u8], at: usize) -> StringItem
     requires { ⌜ at < length (now text) ⌝ }
-    ensures { λ r. ⌜ r ≡ itemAt (now (text .entry)) at ⌝ }
+    ensures { λ r. ⌜ r ≡ stringItemAt (now (text .entry)) at ⌝ }
 {
     let b = text[at];
     match b {
-        b',' => Item::End,
+        b',' => StringItem::End,
         b'\\' => escape_at(text, at + 1),
         b'^' => caret_at(text, at + 1),
         10 => line_end_at(text, at + 1),
-        32..=126 => Item::Byte(b, at + 1),
-        _ => Item::Malformed,
+        32..=126 => StringItem::Byte(b, at + 1),
+        _ => StringItem::Malformed,
     }
 }

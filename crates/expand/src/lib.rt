@@ -1,5 +1,6 @@
-// The expansion of parameterized strings (document 01: Expansion). Proved: `expand` and `expand_lent` give what `expanding` of
-// expansion/specs says of their string, arguments and variables, for every buffer and place. Assumed: nothing.
+// The expansion of parameterized strings (document 01: Expansion). Proved: `expand` and `expand_lent` give what
+// `expanding` of expansion/specs says of their string, arguments and variables, for every buffer and place. Assumed:
+// nothing.
 ghost use lib.ListN.{length};
 ghost use Rattle.expansion.specs.Expanding.{expanding};
 ghost use Rattle.expand_output.specs.Answers.{ExpandedAs, LentAs};
@@ -14,7 +15,8 @@ const STRING_MOST: usize = 1000;
 // The size of the short buffer: a longer output is run twice.
 const SHORT_OUTPUT: usize = 256;
 
-// Expands a string into the free part of the buffer from place at on, and changes the lasting variables in place; a refusal leaves both.
+// Expands a string into the free part of the buffer from place at on, and changes the lasting variables in place; a
+// refusal leaves both.
 pub fn expand_lent(
     string: &[u8],
     arguments: [i32; 9],
@@ -22,7 +24,9 @@ pub fn expand_lent(
     out: &mut [u8],
     at: usize,
 ) -> Expansion
-    ensures { λ r. ⌜ LentAs (expanding (now (string .entry)) arguments (now (lasting .entry)) (length (now (out .entry))) at) (now (lasting .entry)) (now (lasting .exit)) (now (out .entry)) at (now (out .exit)) r ⌝ }
+    ensures { λ r. ⌜ LentAs (expanding (now (string .entry)) arguments (now (lasting .entry))
+        (length (now (out .entry))) at) (now (lasting .entry)) (now (lasting .exit)) (now (out .entry)) at
+        (now (out .exit)) r ⌝ }
 {
     if out.len() < at {
         return Expansion::Place;
@@ -34,7 +38,8 @@ pub fn expand_lent(
     expand_into(string, arguments, lasting, &mut short, &mut out[at..])
 }
 
-// The same with the lasting variables by value: the answer, and the variables as they are afterwards, on a refusal as they came.
+// The same with the lasting variables by value: the answer, and the variables as they are afterwards, on a refusal as
+// they came.
 pub fn expand(
     string: &[u8],
     arguments: [i32; 9],
@@ -42,7 +47,8 @@ pub fn expand(
     out: &mut [u8],
     at: usize,
 ) -> Expanded
-    ensures { λ r. ⌜ ExpandedAs (expanding (now (string .entry)) arguments (lasting .values) (length (now (out .entry))) at) (lasting .values) (now (out .entry)) at (now (out .exit)) r ⌝ }
+    ensures { λ r. ⌜ ExpandedAs (expanding (now (string .entry)) arguments (lasting .values)
+        (length (now (out .entry))) at) (lasting .values) (now (out .entry)) at (now (out .exit)) r ⌝ }
 {
     let mut kept = lasting.values;
     let answer = expand_lent(string, arguments, &mut kept, out, at);

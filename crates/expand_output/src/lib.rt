@@ -1,5 +1,5 @@
-// The output of a run, put where it fits (document 01: Expansion). Proved: `expand_into` answers and leaves what `formed` and `ended` of
-// expansion/specs say. Assumed: nothing.
+// The output of a run, put where it fits (document 01: Expansion). Proved: `expand_into` answers and leaves what
+// `formed` and `ended` of expansion/specs say. Assumed: nothing.
 ghost use mathlib.Core.Path.{_≡_};
 ghost use Prim.Native.Nat.{_≤_};
 ghost use lib.ListN.{length, take};
@@ -30,15 +30,16 @@ fn copy(from: &[u8], n: usize, out: &mut [u8])
 // Runs a well formed string once more, for its output alone.
 fn run_out(s: &[u8], arguments: [i32; 9], lasting: &[i32; 26], out: &mut [u8])
     requires { ⌜ (length (now s) ≤ stringMost) × (formOf (now s) ≡ Form.Right) ⌝ }
-    ensures { λ _. ⌜ PutAs (run (now (s .entry)) arguments (now (lasting .entry))) (now (out .entry)) (now (out .exit)) ⌝ }
+    ensures { λ _. ⌜ PutAs (run (now (s .entry)) arguments (now (lasting .entry))) (now (out .entry))
+        (now (out .exit)) ⌝ }
 {
     let mut given = arguments;
     let mut kept = *lasting;
     run(s, &mut given, &mut kept, out);
 }
 
-// Expands a string from the buffer's first byte on. The run prints into the short buffer and changes a copy of the variables, so that a
-// refusal leaves what is lent.
+// Expands a string from the buffer's first byte on. The run prints into the short buffer and changes a copy of the
+// variables, so that a refusal leaves what is lent.
 pub fn expand_into(
     s: &[u8],
     arguments: [i32; 9],
@@ -47,7 +48,9 @@ pub fn expand_into(
     out: &mut [u8],
 ) -> Expansion
     requires { ⌜ length (now s) ≤ stringMost ⌝ }
-    ensures { λ r. ⌜ LentAs (formed (formOf (now (s .entry))) (ended (run (now (s .entry)) arguments (now (lasting .entry))) (length (now (out .entry))))) (now (lasting .entry)) (now (lasting .exit)) (now (out .entry)) 0 (now (out .exit)) r ⌝ }
+    ensures { λ r. ⌜ LentAs (formed (formOf (now (s .entry)))
+        (ended (run (now (s .entry)) arguments (now (lasting .entry))) (length (now (out .entry)))))
+        (now (lasting .entry)) (now (lasting .exit)) (now (out .entry)) 0 (now (out .exit)) r ⌝ }
 {
     let mut given = arguments;
     let mut kept = *lasting;

@@ -31,12 +31,14 @@ abbrev pub RanAs : Outcome → Ran → List ℤ → Type 0
 RanAs (finished m o n) r v = (r ≡ Done (length o) n) × (v ≡ m .lasting)
 RanAs (failed k i) r v = saysRan r ≡ refused k (i ∷ [])
 
--- the answer of a run whose string, from some place on, has this form: "14 over the whole string", then the first failing step
+-- the answer of a run whose string, from some place on, has this form: "14 over the whole string", then the first
+-- failing step
 abbrev pub judged : Form → Ran → Ran
 judged F.Right r = r
 judged (F.Wrong i) r = Wrong i
 
--- a run of a string of this form with this outcome answers r; A to Z are v after it, and a buffer's bytes are b before it and b′ after it
+-- a run of a string of this form with this outcome answers r; A to Z are v after it, and a buffer's bytes are b
+-- before it and b′ after it
 abbrev pub RunAs : Form → Outcome → List ℕ → Ran → List ℤ → List ℕ → Type 0
 RunAs F.Right y b r v b′ = RanAs y r v × PutAs y b b′
 RunAs (F.Wrong i) y b r v b′ = r ≡ Wrong i

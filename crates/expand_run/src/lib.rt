@@ -1,7 +1,7 @@
-// The run of a parameterized string (document 01: Expansion). Proved: `run` comes to what `run` of expansion/specs gives, or to the first
-// wrong item. Assumed: nothing.
-// A string is checked while it runs: each item that is reached or passed over is checked once. Where a step fails, the rest is checked
-// before it is refused, since 14 is judged over the whole string first.
+// The run of a parameterized string (document 01: Expansion). Proved: `run` comes to what `run` of expansion/specs
+// gives, or to the first wrong item. Assumed: nothing. A string is checked while it runs: each item that is reached
+// or passed over is checked once. Where a step fails, the rest is checked before it is refused, since 14 is judged
+// over the whole string first.
 ghost use mathlib.Core.Path.{_≡_};
 ghost use Prim.Native.Nat.{_≤_};
 ghost use lib.ListN.{length, take};
@@ -18,8 +18,8 @@ use machine::Step;
 // The stack's places.
 const STACK_MOST: usize = 20;
 
-// How a run ended: with the output's length and the steps; at an item's place with the stack empty or full; or at the place of the first
-// wrong item.
+// How a run ended: with the output's length and the steps; at an item's place with the stack empty or full; or at the
+// place of the first wrong item.
 pub enum Ran {
     Done { length: usize, steps: usize },
     Empty(usize),
@@ -38,11 +38,13 @@ fn judge(s: &[u8], i: usize, kept: u64, ran: Ran) -> Ran
     }
 }
 
-// Runs a string from its start, and prints from the buffer's first byte on what fits; the length counts in any case. The number kept is
-// that of the open conditionals, by which form::nest checks each item.
+// Runs a string from its start, and prints from the buffer's first byte on what fits; the length counts in any case.
+// The number kept is that of the open conditionals, by which form::nest checks each item.
 pub fn run(s: &[u8], arguments: &mut [i32; 9], lasting: &mut [i32; 26], out: &mut [u8]) -> Ran
     requires { ⌜ (length (now s) ≤ stringMost) × (length (now arguments) ≡ 9) ⌝ }
-    ensures { λ r. ⌜ RunAs (formOf (now (s .entry))) (run (now (s .entry)) (now (arguments .entry)) (now (lasting .entry))) (now (out .entry)) r (now (lasting .exit)) (now (out .exit)) ⌝ }
+    ensures { λ r. ⌜ RunAs (formOf (now (s .entry)))
+        (run (now (s .entry)) (now (arguments .entry)) (now (lasting .entry))) (now (out .entry)) r
+        (now (lasting .exit)) (now (out .exit)) ⌝ }
 {
     let mut stack = [0i32; STACK_MOST];
     let mut locals = [0i32; 26];

@@ -1,4 +1,5 @@
--- What expanding gives (document 01: Expansion; Numbers of refusal, order of expansion), and what the code's answer says.
+-- What expanding gives (document 01: Expansion; Numbers of refusal, order of expansion), and what the code's answer
+-- says.
 -- Assumes nothing.
 use mathlib.Core.Bool.{Bool, not}
 use mathlib.Core.List.{List, [], _∷_}
@@ -23,18 +24,21 @@ pub record Expanding : Type 0 where
   pub steps : ℕ
   pub lasting : List ℤ
 
--- "then the first failing step (15 and 16 with its item's place), then 8, only if all else succeeded": room bytes are free
+-- "then the first failing step (15 and 16 with its item's place), then 8, only if all else succeeded": room bytes are
+-- free
 unfoldable pub ended : Outcome → ℕ → Answer Expanding
 ended (failed n i) room = refused n (i ∷ [])
 ended (finished m out n) room =
-    if not (leb (length out) room) then refused 8 (length out ∷ []) else gives (record { output = out; steps = n; lasting = m .lasting })
+    if not (leb (length out) room) then refused 8 (length out ∷ [])
+    else gives (record { output = out; steps = n; lasting = m .lasting })
 
 -- "14 over the whole string with the place of the first wrong item"
 unfoldable pub formed : Form → Answer Expanding → Answer Expanding
 formed (F.Wrong i) a = refused 14 (i ∷ [])
 formed F.Right a = a
 
--- "Expansion: 17, 1, 14 .., then the first failing step, then 8": output goes from place at on into a buffer of size bytes
+-- "Expansion: 17, 1, 14 .., then the first failing step, then 8": output goes from place at on into a buffer of size
+-- bytes
 unfoldable pub expanding : List ℕ → List ℤ → List ℤ → ℕ → ℕ → Answer Expanding
 expanding s arguments lasting size at =
     if not (leb at size) then refused 17 []

@@ -1,4 +1,5 @@
--- Which strings are well formed, and the place of the first wrong item (document 01: Expansion; Numbers of refusal, 14).
+-- Which strings are well formed, and the place of the first wrong item (document 01: Expansion; Numbers of refusal,
+-- 14).
 -- Assumes nothing.
 use mathlib.Core.Bool.{Bool, true, false}
 use mathlib.Core.List.{List, [], _∷_}
@@ -38,8 +39,8 @@ classOf I.Wrong = Wrong
 unfoldable pub classAt : List ℕ → ℕ → Classed
 classAt s i = record { class = classOf (itemAt s i .item); next = itemAt s i .next }
 
--- which part of an open conditional is being read: the condition, from `%?` or from an `%e` on, which may turn out to be the final
--- else; or the body, from `%t` on
+-- which part of an open conditional is being read: the condition, from `%?` or from an `%e` on, which may turn out to
+-- be the final else; or the body, from `%t` on
 pub data Level : Type 0 where
   condition : Level
   body : Level
@@ -82,13 +83,16 @@ nesting Else ls = afterElse ls
 nesting End ls = afterEnd ls
 nesting Wrong ls = misplaced
 
--- the string from place i on, with these conditionals open: "the place of the first wrong item (the length for an open conditional)".
--- The count falls with each item, and the string's length and one is enough.
+-- the string from place i on, with these conditionals open: "the place of the first wrong item (the length for an open
+-- conditional)". The count falls with each item; the string's length and one is enough (form-of of expansion_laws).
 unfoldable pub formFrom : ℕ → List ℕ → ℕ → List Level → Form
 formFrom zero s i ls = F.Wrong i
 formFrom (suc k) s i ls =
     elim (ltb i (length s)) [
-      | true ↦ elim (nesting (classAt s i .class) ls) [ levels ls′ ↦ formFrom k s (classAt s i .next) ls′ | misplaced ↦ F.Wrong i ]
+      | true ↦ elim (nesting (classAt s i .class) ls) [
+        | levels ls′ ↦ formFrom k s (classAt s i .next) ls′
+        | misplaced ↦ F.Wrong i
+      ]
       | false ↦ elim ls [ [] ↦ F.Right | l ∷ ls′ ↦ F.Wrong (length s) ]
     ]
 

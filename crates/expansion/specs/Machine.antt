@@ -3,6 +3,7 @@
 use mathlib.Core.Bool.{Bool, true, false, _&&_, _||_, not}
 use mathlib.Core.List.{List, [], _∷_, _++_}
 use Prim.Native.Nat.{ℕ, zero, suc, _+_, _-_, _%_, _^_}
+use Prim.Native.Char.{code}
 use lib.Bits.{bitAnd, bitOr, bitXor}
 use lib.Dec.{eqb, leb, ltb}
 use lib.IntN.{ℤ, pos, negsuc}
@@ -16,7 +17,8 @@ use Rattle.expansion.specs.Limits.{stackMost}
 use Rattle.expansion.specs.declared.Item.{Item}
 use Rattle.expansion.specs.declared.Item.the-variants as I
 use Rattle.expansion.specs.declared.Operator.{Operator}
-use Rattle.expansion.specs.declared.Operator.the-variants.{Add, Subtract, Multiply, Divide, Remainder, BitAnd, BitOr, BitXor, Equal, Greater, Less, And, Or}
+use Rattle.expansion.specs.declared.Operator.the-variants.{Add, Subtract, Multiply, Divide, Remainder, BitAnd}
+use Rattle.expansion.specs.declared.Operator.the-variants.{BitOr, BitXor, Equal, Greater, Less, And, Or}
 use Rattle.expansion.specs.declared.Class.{Class}
 use Rattle.expansion.specs.declared.Class.the-variants as C
 use Rattle.expansion.specs.Items.{itemAt}
@@ -36,7 +38,8 @@ pub record Machine : Type 0 where
 
 -- "a to z start at 0 in each call"
 abbrev pub started : List ℤ → List ℤ → Machine
-started arguments lasting = record { stack = []; arguments = arguments; locals = replicate 26 (pos 0); lasting = lasting }
+started arguments lasting =
+    record { stack = []; arguments = arguments; locals = replicate 26 (pos 0); lasting = lasting }
 
 -- ---- values
 
@@ -77,12 +80,23 @@ character v = low32 v % 256
 
 -- capital letters are the lasting variables
 unfoldable pub loaded : Machine → ℕ → ℤ
-loaded m c = if leb c 90 then getD (m .lasting) (c - 65) (pos 0) else getD (m .locals) (c - 97) (pos 0)
+loaded m c =
+    if leb c (code "Z") then getD (m .lasting) (c - code "A") (pos 0) else getD (m .locals) (c - code "a") (pos 0)
 
 unfoldable pub stored : Machine → ℕ → ℤ → Machine
 stored m c v =
-    if leb c 90 then record { stack = m .stack; arguments = m .arguments; locals = m .locals; lasting = set (m .lasting) (c - 65) v }
-    else record { stack = m .stack; arguments = m .arguments; locals = set (m .locals) (c - 97) v; lasting = m .lasting }
+    if leb c (code "Z") then record {
+      stack = m .stack;
+      arguments = m .arguments;
+      locals = m .locals;
+      lasting = set (m .lasting) (c - code "A") v;
+    }
+    else record {
+      stack = m .stack;
+      arguments = m .arguments;
+      locals = set (m .locals) (c - code "a") v;
+      lasting = m .lasting;
+    }
 
 -- "`%i` adds 1 to the first two arguments"
 unfoldable pub incremented : List ℤ → List ℤ
@@ -137,8 +151,8 @@ effect I.Else m a b = toEnd
 effect I.End m a b = prints []
 effect I.Wrong m a b = prints []
 
--- what taking an item comes to: go on behind it, with bytes printed; go past the next `%e` of this level or else its `%;`; go past its
--- `%;`; or the stack is empty, or full
+-- what taking an item comes to: go on behind it, with bytes printed; go past the next `%e` of this level or else its
+-- `%;`; go past its `%;`; or the stack is empty, or full
 pub data Taken : Type 0 where
   goesOn : Machine → List ℕ → Taken
   goesToElse : Machine → Taken
@@ -163,12 +177,15 @@ performed toEnd m = goesToEnd m
 -- pop, then do; 15 is judged before 16
 unfoldable pub taking : Item → Machine → Taken
 taking k m =
+    let a : Value = getD (m .stack) 1 (pos 0) in
+    let b : Value = getD (m .stack) 0 (pos 0) in
     if ltb (length (m .stack)) (arity k) then empty
-    else performed (effect k m (getD (m .stack) 1 (pos 0)) (getD (m .stack) 0 (pos 0))) (withStack m (drop (arity k) (m .stack)))
+    else performed (effect k m a b) (withStack m (drop (arity k) (m .stack)))
 
 -- ---- passing over items
 
--- with d inner conditionals open: stop behind this item, or go on with so many open. elses: the level's own `%e` stops too
+-- with d inner conditionals open: stop behind this item, or go on with so many open. elses: the level's own `%e` stops
+-- too
 pub data Passing : Type 0 where
   stops : Passing
   opens : ℕ → Passing
@@ -183,12 +200,16 @@ passing elses C.End zero = stops
 passing elses C.End (suc d) = opens d
 passing elses C.Wrong d = opens d
 
--- the place behind the item at which passing stops, from i on; the count falls with each item, and the string's length is enough
+-- the place behind the item at which passing stops, from i on; the count falls with each item; the string's length is
+-- enough (passed-enough of expansion_laws)
 unfoldable pub passed : ℕ → Bool → List ℕ → ℕ → ℕ → ℕ
 passed zero elses s i d = i
 passed (suc k) elses s i d =
     elim (ltb i (length s)) [
-      | true ↦ elim (passing elses (classAt s i .class) d) [ stops ↦ classAt s i .next | opens d′ ↦ passed k elses s (classAt s i .next) d′ ]
+      | true ↦ elim (passing elses (classAt s i .class) d) [
+        | stops ↦ classAt s i .next
+        | opens d′ ↦ passed k elses s (classAt s i .next) d′
+      ]
       | false ↦ i
     ]
 
@@ -199,8 +220,8 @@ pub data Outcome : Type 0 where
   finished : Machine → List ℕ → ℕ → Outcome
   failed : ℕ → ℕ → Outcome
 
--- from the item at i on, with bytes printed and n items taken so far; the count falls with each step, and each step leads on in the
--- string, so that its length is enough
+-- from the item at i on, with bytes printed and n items taken so far; the count falls with each step, and each step
+-- leads on in the string, so that its length is enough and no run ends early (run-enough, run-ends of expansion_laws)
 unfoldable pub running : ℕ → List ℕ → ℕ → Machine → List ℕ → ℕ → Outcome
 running zero s i m out n = finished m out n
 running (suc k) s i m out n =

@@ -1,12 +1,12 @@
-// The fields of source text (document 01: Source text). Proved: each function answers every text and place as text/specs says.
-// Assumed: nothing.
+// The fields of source text (document 01: Source text). Proved: each function answers every text and place as
+// text/specs says. Assumed: nothing.
 ghost use mathlib.Core.Path.{_≡_};
 ghost use Prim.Native.Nat.{_+_, _-_, _≤_, _<_};
 ghost use lib.ListN.{length};
 ghost use Rattle.text.specs.Fields.{formAt, namedAt, fieldAt};
 use text::Content;
 use text::Field;
-use text::Form;
+use text::FieldForm;
 use text::Formed;
 use text_numbers::number_at;
 
@@ -17,11 +17,11 @@ fn form_at(text: &[u8], at: usize) -> Formed
 {
     let b = text_bytes::byte_at(text, at);
     match b {
-        b',' => Formed::Right(Form::Boolean, at),
-        b'@' => Formed::Right(Form::Cancelled, at + 1),
+        b',' => Formed::Right(FieldForm::Boolean, at),
+        b'@' => Formed::Right(FieldForm::Cancelled, at + 1),
         b'#' => number_at(text, at + 1),
         b'=' => match contents::content_at(text, at + 1) {
-            Content::Whole(n, k) => Formed::Right(Form::String(at + 1, n), k),
+            Content::Whole(n, k) => Formed::Right(FieldForm::String(at + 1, n), k),
             Content::Malformed => Formed::Malformed,
         },
         _ => Formed::Malformed,

@@ -8,8 +8,10 @@ use native.Mathlib.Omega.{arith}
 use lib.Dec.{leb, eqb, ltb}
 use lib.ListN.{length, getD}
 use borrow.Author.Tests.{lt-leb, le-leb, eq-eqb, ne-eqb, lt-ltb, le-ltb, leb-true}
-use Rattle.base.specs.If.{if_then_else_, below-or, true-false, and-left}
-use Rattle.base.specs.Scan.{scan, scan-all, scan-before, scan-le, scan-ext}
+use Rattle.base.specs.If.{if_then_else_}
+use Rattle.base.proofs.IfLaws.{below-or, true-false, and-left}
+use Rattle.base.specs.Scan.{scan}
+use Rattle.base.proofs.ScanLaws.{scan-all, scan-before, scan-le, scan-ext}
 use Rattle.word.specs.Word.{word}
 use Rattle.word.specs.Nul.{nulFrom, notNul}
 use Rattle.edition.specs.declared.Edition.{Edition}

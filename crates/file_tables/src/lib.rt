@@ -1,5 +1,5 @@
-// The checks of a file's tables, each of them over every byte or slot of its table (document 01: Compiled entry). Proved: each function is
-// its definition of entry/specs. Assumed: nothing.
+// The checks of a file's tables, each of them over every byte or slot of its table (document 01: Compiled entry).
+// Proved: each function is its definition of entry/specs. Assumed: nothing.
 ghost use mathlib.Core.Path.{_≡_};
 ghost use mathlib.Core.Bool.{_&&_};
 ghost use Prim.Native.Nat.{_+_, _*_, _<_, _≤_};
@@ -62,7 +62,8 @@ fn slot_ok(c: usize, bound: usize) -> bool
 // The first bad slot of n from at on, where codes below the bound are good; n where there is none.
 fn first_bad_slot(file: &[u8], at: usize, n: usize, bound: usize) -> usize
     requires { ⌜ at + shortWidth * n ≤ length (now file) ⌝ }
-    ensures { λ r. ⌜ r ≡ scan (λ i. okSlot shortWidth (λ d. ltb d bound) (word shortWidth (now (file .entry)) (at + shortWidth * i))) 0 n ⌝ }
+    ensures { λ r. ⌜ r ≡ scan (λ i. okSlot shortWidth (λ d. ltb d bound)
+        (word shortWidth (now (file .entry)) (at + shortWidth * i))) 0 n ⌝ }
 {
     let mut i = 0;
     while i < n {
@@ -74,8 +75,8 @@ fn first_bad_slot(file: &[u8], at: usize, n: usize, bound: usize) -> usize
     i
 }
 
-// One past the last NUL of the table of n bytes from at on, counted from at; 0 where it has none. The offsets below it, and no
-// others, have a NUL at or after them in the table.
+// One past the last NUL of the table of n bytes from at on, counted from at; 0 where it has none. The offsets below
+// it, and no others, have a NUL at or after them in the table.
 fn offsets_end(file: &[u8], at: usize, n: usize) -> usize
     requires { ⌜ at + n ≤ length (now file) ⌝ }
     ensures { λ r. ⌜ OffsetsEnd (now (file .entry)) at n r ⌝ }

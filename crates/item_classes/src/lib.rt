@@ -1,5 +1,6 @@
-// The classes of items: what an item is to the conditionals around it, and the place behind it, without the item itself (document 01:
-// Expansion). Proved: `class_at` is classAt of the crate expansion at each place of each string. Assumed: nothing.
+// The classes of items: what an item is to the conditionals around it, and the place behind it, without the item
+// itself (document 01: Expansion). Proved: `class_at` is classAt of the crate expansion at each place of each string.
+// Assumed: nothing.
 ghost use mathlib.Core.Path.{_≡_};
 ghost use mathlib.Core.Bool.{Bool};
 ghost use Prim.Native.Nat.{ℕ, _+_, _≤_, _<_};

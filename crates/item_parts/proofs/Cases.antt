@@ -14,8 +14,9 @@ use lib.Seq.{drop-cons}
 use borrow.Author.Tests.{leb-true, le-leb, lt-leb, ne-eqb}
 use mir.Val.{hasKey}
 use types.Run.{OneOf, hit}
-use Rattle.base.specs.If.{if_then_else_, true-false, and-left, and-right}
-use Rattle.base.specs.Scan.{scan-ge, scan-step, scan-hit, scan-end}
+use Rattle.base.specs.If.{if_then_else_}
+use Rattle.base.proofs.IfLaws.{true-false, and-left, and-right}
+use Rattle.base.proofs.ScanLaws.{scan-ge, scan-step, scan-hit, scan-end}
 use Rattle.base.specs.Tabulate.{Each}
 use Rattle.expansion.specs.declared.Item.{Item}
 use Rattle.expansion.specs.declared.Item.the-variants.{Constant, Wrong}

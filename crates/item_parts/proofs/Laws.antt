@@ -10,8 +10,9 @@ use lib.Dec.{eqb, leb}
 use lib.IntN.{pos}
 use lib.ListN.{length, take, drop, List·getD-eq-default}
 use borrow.Author.Tests.{leb-true, eqb-true, eqb-false, not-true, not-false}
-use Rattle.base.specs.If.{if_then_else_, and-left, and-right, below-or}
-use Rattle.base.specs.Scan.{scan-ge}
+use Rattle.base.specs.If.{if_then_else_}
+use Rattle.base.proofs.IfLaws.{and-left, and-right, below-or}
+use Rattle.base.proofs.ScanLaws.{scan-ge}
 use Rattle.base.specs.Tabulate.{Each}
 use Rattle.expansion.specs.declared.Item.{Item}
 use Rattle.expansion.specs.declared.Item.the-variants as I

@@ -3,6 +3,7 @@
 use mathlib.Core.Bool.{Bool, true, false, _&&_, not}
 use mathlib.Core.List.{List}
 use Prim.Native.Nat.{ℕ, _+_}
+use Prim.Native.Char.{code}
 use lib.Dec.{eqb}
 use Rattle.base.specs.If.{if_then_else_}
 use Rattle.expansion.specs.declared.Item.the-variants.{Constant}
@@ -19,7 +20,7 @@ itemClass l = record { class = classOf (l .item); next = l .next }
 
 -- a byte that is no NUL, and `'`, behind the place j
 abbrev pub quoted : List ℕ → ℕ → Bool
-quoted s j = not (eqb (byteAt s (j + 1)) 0) && eqb (byteAt s (j + 2)) 39
+quoted s j = not (eqb (byteAt s (j + 1)) 0) && eqb (byteAt s (j + 2)) (code "'")
 
 -- the constant in braces whose `{` is at j
 abbrev pub lexedConstant : Braced → ℕ → Lexed
@@ -29,6 +30,6 @@ lexedConstant B.Wrong j = wrong j
 -- the item whose second byte, at j, starts no other item
 abbrev pub otherAt : List ℕ → ℕ → Lexed
 otherAt s j =
-    if eqb (byteAt s j) 48 then widthAt s (j + 1) true
+    if eqb (byteAt s j) (code "0") then widthAt s (j + 1) true
     else if isNonzero (byteAt s j) then widthAt s j false
     else wrong (j + 1)

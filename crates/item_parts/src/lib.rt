@@ -1,5 +1,5 @@
-// The bytes of items: digits, letters, constants in braces and in quotes (document 01: Expansion). Proved: each function is its definition of
-// expansion/specs or of specs/. Assumed: nothing.
+// The bytes of items: digits, letters, constants in braces and in quotes (document 01: Expansion). Proved: each
+// function is its definition of expansion/specs or of specs/. Assumed: nothing.
 ghost use mathlib.Core.Path.{_≡_};
 ghost use Prim.Native.Nat.{_+_, _≤_, _<_};
 ghost use lib.ListN.{length};

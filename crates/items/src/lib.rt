@@ -1,9 +1,10 @@
-// The items of a parameterized string (document 01: Expansion). Proved: `item_at` is itemAt of the crate expansion at each place of each
-// string. Assumed: nothing.
+// The items of a parameterized string (document 01: Expansion). Proved: `item_at` is itemAt of the crate expansion at
+// each place of each string. Assumed: nothing.
 ghost use mathlib.Core.Path.{_≡_};
 ghost use Prim.Native.Nat.{_+_, _≤_, _<_};
 ghost use lib.ListN.{length};
-ghost use Rattle.expansion.specs.Items.{lexed, argumentAt, quotedAt, bracedAt, storeAt, loadAt, formatAt, widthAt, percentAt, itemAt};
+ghost use Rattle.expansion.specs.Items.{lexed, argumentAt, quotedAt, bracedAt, storeAt, loadAt, formatAt, widthAt};
+ghost use Rattle.expansion.specs.Items.{percentAt, itemAt};
 ghost use Rattle.expansion.specs.declared.Item.the-variants.{Number};
 ghost use Rattle.item_parts.specs.Classes.{otherAt};
 use expansion::Base;

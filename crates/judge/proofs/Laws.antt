@@ -17,8 +17,8 @@ use Rattle.names.specs.declared.Found.the-variants as N
 use Rattle.names.specs.Names.{ascii}
 use Rattle.names.specs.Lookup.{sameBytes, lookingUp}
 use Rattle.names.proofs.LookupLaws.{never, same-eq, found-in}
-use Rattle.text.specs.declared.Form.{Form}
-use Rattle.text.specs.declared.Form.the-variants as F
+use Rattle.text.specs.declared.FieldForm.{FieldForm}
+use Rattle.text.specs.declared.FieldForm.the-variants as F
 use Rattle.text.specs.declared.Said.the-variants as S
 use Rattle.text.specs.declared.Judged.{Judged}
 use Rattle.text.specs.declared.Judged.the-variants as J
@@ -50,7 +50,7 @@ use-third (a ∷ (b ∷ (c ∷ (d ∷ n)))) l u s = absurd (let z : ⊥ = omega 
 
 -- ---- a string's form
 
-module _ (q : Place) (form : Form) (next i n : ℕ) (is : form ≡ F.String i n) where
+module _ (q : Place) (form : FieldForm) (next i n : ℕ) (is : form ≡ F.String i n) where
   pub string-long : contentMost < n → Judges (N.String q) form next (J.Refused R.Limit)
   unfolding sayingOf
   string-long h e t p k f = (rw (is, lt-leb n contentMost h), tt)
@@ -61,7 +61,7 @@ module _ (q : Place) (form : Form) (next i n : ℕ) (is : form ≡ F.String i n)
 
 -- ---- a name
 
-module _ (e : Edition) (name : List ℕ) (form : Form) (next : ℕ) where
+module _ (e : Edition) (name : List ℕ) (form : FieldForm) (next : ℕ) where
   pub named-use : isUse name form ≡ true → JudgesNamed e name form next (J.Refused R.Use)
   unfolding namedSaying
   named-use h t p f = (rw h, tt)
@@ -76,7 +76,7 @@ module _ (e : Edition) (name : List ℕ) (form : Form) (next : ℕ) where
 
 module _ (t : List ℕ) (p : ℕ) where
   -- a string's form stands in the text
-  field-form : (d : Bool) (i k : ℕ) (f : Form) (next : ℕ) → fieldAt t p ≡ W.Right d i k f next → FormIn t f
+  field-form : (d : Bool) (i k : ℕ) (f : FieldForm) (next : ℕ) → fieldAt t p ≡ W.Right d i k f next → FormIn t f
   field-form d i k F.Boolean next is = tt
   field-form d i k F.Cancelled next is = tt
   field-form d i k (F.Number v) next is = tt
@@ -84,7 +84,7 @@ module _ (t : List ℕ) (p : ℕ) where
   field-form d i k (F.String s n) next is = let h = field-string t p d i k s n next is in record { whole = h .0; counted = h .1 }
 
   -- the name lies in the text
-  pub field-name : (d : Bool) (i k : ℕ) (f : Form) (next : ℕ) → fieldAt t p ≡ W.Right d i k f next → (i ≤ k) × (k ≤ length t)
+  pub field-name : (d : Bool) (i k : ℕ) (f : FieldForm) (next : ℕ) → fieldAt t p ≡ W.Right d i k f next → (i ≤ k) × (k ≤ length t)
   field-name d i k f next is = let h = field-after t p d i k f next is in (omega arith, omega arith)
 
 module _ (e : Edition) (t : List ℕ) (p : ℕ) where
@@ -92,7 +92,7 @@ module _ (e : Edition) (t : List ℕ) (p : ℕ) where
   unfolding judging
   judged-malformed is = rw is
 
-  module _ (d : Bool) (i k : ℕ) (f : Form) (next : ℕ) (is : fieldAt t p ≡ W.Right d i k f next) where
+  module _ (d : Bool) (i k : ℕ) (f : FieldForm) (next : ℕ) (is : fieldAt t p ≡ W.Right d i k f next) where
     -- the name of a dropped field isn't looked up
     pub judged-dropped : d ≡ true → saysJudged t p (J.Said S.Nothing next) ≡ judging e t p
     unfolding judging

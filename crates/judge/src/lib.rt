@@ -1,5 +1,5 @@
-// Judges a field of source text (document 01: Numbers of refusal, 10 to 13). Proved: `judge` answers every text, place and edition as
-// `judging` of text/specs says. Assumed: nothing.
+// Judges a field of source text (document 01: Numbers of refusal, 10 to 13). Proved: `judge` answers every text,
+// place and edition as `judging` of text/specs says. Assumed: nothing.
 ghost use mathlib.Core.Path.{_≡_};
 ghost use Prim.Native.Nat.{_<_};
 ghost use lib.ListN.{length};
@@ -16,7 +16,7 @@ use entry::CONTENT_MOST;
 use entry::PRESENT;
 use names::Found;
 use text::Field;
-use text::Form;
+use text::FieldForm;
 use text::Judged;
 use text::Said;
 use text::TextRefusal;
@@ -36,54 +36,54 @@ fn is_use(name: &[u8]) -> bool
 }
 
 // The field is `use=` and a string.
-fn is_use_field(name: &[u8], form: Form) -> bool
+fn is_use_field(name: &[u8], form: FieldForm) -> bool
     ensures { λ r. ⌜ r ≡ isUse (now (name .entry)) form ⌝ }
 {
     match form {
-        Form::Boolean => false,
-        Form::Cancelled => false,
-        Form::Number(_) => false,
-        Form::LargeNumber => false,
-        Form::String(_, _) => is_use(name),
+        FieldForm::Boolean => false,
+        FieldForm::Cancelled => false,
+        FieldForm::Number(_) => false,
+        FieldForm::LargeNumber => false,
+        FieldForm::String(_, _) => is_use(name),
     }
 }
 
 // What a form says of a boolean; next is the place past the field.
-fn boolean_by(place: Place, form: Form, next: usize) -> Judged
+fn boolean_by(place: Place, form: FieldForm, next: usize) -> Judged
     ensures { λ r. ⌜ (Judges (Capability.Boolean place) form next r) ⌝ }
 {
     match form {
-        Form::Boolean => Judged::Said(Said::Boolean(place, PRESENT), next),
-        Form::Cancelled => Judged::Said(Said::Boolean(place, CANCELLED), next),
-        Form::Number(_) => Judged::Refused(TextRefusal::Unknown),
-        Form::LargeNumber => Judged::Refused(TextRefusal::Unknown), // the kind comes before the limit
-        Form::String(_, _) => Judged::Refused(TextRefusal::Unknown),
+        FieldForm::Boolean => Judged::Said(Said::Boolean(place, PRESENT), next),
+        FieldForm::Cancelled => Judged::Said(Said::Boolean(place, CANCELLED), next),
+        FieldForm::Number(_) => Judged::Refused(TextRefusal::Unknown),
+        FieldForm::LargeNumber => Judged::Refused(TextRefusal::Unknown), // the kind comes before the limit
+        FieldForm::String(_, _) => Judged::Refused(TextRefusal::Unknown),
     }
 }
 
 // What a form says of a number.
-fn number_by(place: Place, form: Form, next: usize) -> Judged
+fn number_by(place: Place, form: FieldForm, next: usize) -> Judged
     ensures { λ r. ⌜ (Judges (Capability.Number place) form next r) ⌝ }
 {
     match form {
-        Form::Boolean => Judged::Refused(TextRefusal::Unknown),
-        Form::Cancelled => Judged::Said(Said::Number(place, CANCELLED, 0), next),
-        Form::Number(v) => Judged::Said(Said::Number(place, PRESENT, v), next),
-        Form::LargeNumber => Judged::Refused(TextRefusal::Limit),
-        Form::String(_, _) => Judged::Refused(TextRefusal::Unknown),
+        FieldForm::Boolean => Judged::Refused(TextRefusal::Unknown),
+        FieldForm::Cancelled => Judged::Said(Said::Number(place, CANCELLED, 0), next),
+        FieldForm::Number(v) => Judged::Said(Said::Number(place, PRESENT, v), next),
+        FieldForm::LargeNumber => Judged::Refused(TextRefusal::Limit),
+        FieldForm::String(_, _) => Judged::Refused(TextRefusal::Unknown),
     }
 }
 
 // What a form says of a string.
-fn string_by(place: Place, form: Form, next: usize) -> Judged
+fn string_by(place: Place, form: FieldForm, next: usize) -> Judged
     ensures { λ r. ⌜ (Judges (Capability.String place) form next r) ⌝ }
 {
     match form {
-        Form::Boolean => Judged::Refused(TextRefusal::Unknown),
-        Form::Cancelled => Judged::Said(Said::String(place, CANCELLED, 0, 0), next),
-        Form::Number(_) => Judged::Refused(TextRefusal::Unknown),
-        Form::LargeNumber => Judged::Refused(TextRefusal::Unknown),
-        Form::String(i, n) => {
+        FieldForm::Boolean => Judged::Refused(TextRefusal::Unknown),
+        FieldForm::Cancelled => Judged::Said(Said::String(place, CANCELLED, 0, 0), next),
+        FieldForm::Number(_) => Judged::Refused(TextRefusal::Unknown),
+        FieldForm::LargeNumber => Judged::Refused(TextRefusal::Unknown),
+        FieldForm::String(i, n) => {
             if CONTENT_MOST < n {
                 return Judged::Refused(TextRefusal::Limit);
             }
@@ -93,7 +93,7 @@ fn string_by(place: Place, form: Form, next: usize) -> Judged
 }
 
 // What a form says of the capability that its name was looked up as.
-fn judge_found(found: Found, form: Form, next: usize) -> Judged
+fn judge_found(found: Found, form: FieldForm, next: usize) -> Judged
     ensures { λ r. ⌜ (Judges found form next r) ⌝ }
 {
     match found {
@@ -105,7 +105,7 @@ fn judge_found(found: Found, form: Form, next: usize) -> Judged
 }
 
 // A field that isn't dropped.
-fn judge_named(name: &[u8], form: Form, next: usize, edition: Edition) -> Judged
+fn judge_named(name: &[u8], form: FieldForm, next: usize, edition: Edition) -> Judged
     ensures { λ r. ⌜ (JudgesNamed edition (now (name .entry)) form next r) ⌝ }
 {
     if is_use_field(name, form) {
@@ -117,7 +117,8 @@ fn judge_named(name: &[u8], form: Form, next: usize, edition: Edition) -> Judged
 // The field whose first byte is at a place.
 pub fn judge(text: &[u8], at: usize, edition: Edition) -> Judged
     requires { ⌜ at < length (now text) ⌝ }
-    ensures { λ r. ⌜ (saysJudged (now (text .entry)) at r ≡ judging edition (now (text .entry)) at) × JudgedIn edition (now (text .entry)) r ⌝ }
+    ensures { λ r. ⌜ (saysJudged (now (text .entry)) at r ≡ judging edition (now (text .entry)) at)
+        × JudgedIn edition (now (text .entry)) r ⌝ }
 {
     match fields::field_at(text, at) {
         Field::Right {

@@ -1,5 +1,5 @@
-// The states that fields give, kept by place: the first field for a capability stands (document 01: Source text). Proved: each function
-// keeps what compile_laws/specs says. Assumed: nothing.
+// The states that fields give, kept by place: the first field for a capability stands (document 01: Source text).
+// Proved: each function keeps what compile_laws/specs says. Assumed: nothing.
 ghost use mathlib.Core.Path.{_≡_};
 ghost use mathlib.Core.List.{[]};
 ghost use Prim.Native.Nat.{_<_};
@@ -34,7 +34,8 @@ fn keep_boolean(kinds: &mut [u8], place: Place, kind: u8)
 
 fn keep_number(kinds: &mut [u8], values: &mut [u32], place: Place, kind: u8, value: u32)
     requires { ⌜ (place .0 < length (now kinds)) × (place .0 < length (now values)) ⌝ }
-    ensures { λ _. ⌜ (now (kinds .exit) ≡ kept (now (kinds .entry)) (now (kinds .entry)) (place .0) kind) × (now (values .exit) ≡ kept (now (kinds .entry)) (now (values .entry)) (place .0) value) ⌝ }
+    ensures { λ _. ⌜ (now (kinds .exit) ≡ kept (now (kinds .entry)) (now (kinds .entry)) (place .0) kind)
+        × (now (values .exit) ≡ kept (now (kinds .entry)) (now (values .entry)) (place .0) value) ⌝ }
 {
     let p = place.0;
     if is_new(kinds, place) {
@@ -52,8 +53,11 @@ fn keep_string(
     start: usize,
     size: usize,
 )
-    requires { ⌜ (place .0 < length (now kinds)) × ((place .0 < length (now starts)) × (place .0 < length (now lengths))) ⌝ }
-    ensures { λ _. ⌜ (now (kinds .exit) ≡ kept (now (kinds .entry)) (now (kinds .entry)) (place .0) kind) × ((now (starts .exit) ≡ kept (now (kinds .entry)) (now (starts .entry)) (place .0) start) × (now (lengths .exit) ≡ kept (now (kinds .entry)) (now (lengths .entry)) (place .0) size)) ⌝ }
+    requires { ⌜ (place .0 < length (now kinds)) × ((place .0 < length (now starts))
+        × (place .0 < length (now lengths))) ⌝ }
+    ensures { λ _. ⌜ (now (kinds .exit) ≡ kept (now (kinds .entry)) (now (kinds .entry)) (place .0) kind)
+        × ((now (starts .exit) ≡ kept (now (kinds .entry)) (now (starts .entry)) (place .0) start)
+        × (now (lengths .exit) ≡ kept (now (kinds .entry)) (now (lengths .entry)) (place .0) size)) ⌝ }
 {
     let p = place.0;
     if is_new(kinds, place) {
@@ -75,8 +79,14 @@ pub fn keep(
     string_starts: &mut [usize],
     string_lengths: &mut [usize],
 )
-    requires { ⌜ SaidIn edition (now text) said × Holds edition (handed [] (now «boolean_kinds») (now «number_kinds») (now «number_values») (now «string_kinds») (now «string_starts») (now «string_lengths») (now text)) ⌝ }
-    ensures { λ _. ⌜ Keeps edition (λ n. handed n (now («boolean_kinds» .entry)) (now («number_kinds» .entry)) (now («number_values» .entry)) (now («string_kinds» .entry)) (now («string_starts» .entry)) (now («string_lengths» .entry)) (now (text .entry))) (λ n. handed n (now («boolean_kinds» .exit)) (now («number_kinds» .exit)) (now («number_values» .exit)) (now («string_kinds» .exit)) (now («string_starts» .exit)) (now («string_lengths» .exit)) (now (text .entry))) said ⌝ }
+    requires { ⌜ SaidIn edition (now text) said
+        × Holds edition (handed [] (now «boolean_kinds») (now «number_kinds») (now «number_values»)
+        (now «string_kinds») (now «string_starts») (now «string_lengths») (now text)) ⌝ }
+    ensures { λ _. ⌜ Keeps edition (λ n. handed n (now («boolean_kinds» .entry)) (now («number_kinds» .entry))
+        (now («number_values» .entry)) (now («string_kinds» .entry)) (now («string_starts» .entry))
+        (now («string_lengths» .entry)) (now (text .entry))) (λ n. handed n (now («boolean_kinds» .exit))
+        (now («number_kinds» .exit)) (now («number_values» .exit)) (now («string_kinds» .exit))
+        (now («string_starts» .exit)) (now («string_lengths» .exit)) (now (text .entry))) said ⌝ }
 {
     match said {
         Said::Nothing => {}

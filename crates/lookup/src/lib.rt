@@ -1,5 +1,5 @@
-// Looks names up (document 01: Three ordered lists). Proved: `find` answers every slice of bytes and every edition as `lookingUp` of
-// names/specs says. Assumed: nothing.
+// Looks names up (document 01: Three ordered lists). Proved: `find` answers every slice of bytes and every edition as
+// `lookingUp` of names/specs says. Assumed: nothing.
 ghost use mathlib.Core.Path.{_≡_};
 ghost use Prim.Native.Nat.{_+_, _<_};
 ghost use lib.ListN.{length, getD};
@@ -26,8 +26,8 @@ fn short_at(name: &[u8], i: usize) -> u64
     byte_at(name, i) + byte_at(name, i + 1) * 256
 }
 
-// The number that stands for the name in the table, or 0 for bytes that no name of the table has. (65536 and 4294967296 are 256 to the
-// power of 2 and 4.)
+// The number that stands for the name in the table, or 0 for bytes that no name of the table has. (65536 and
+// 4294967296 are 256 to the power of 2 and 4.)
 fn pack(name: &[u8]) -> u64
     ensures { λ r. ⌜ r ≡ sought (now (name .entry)) ⌝ }
 {

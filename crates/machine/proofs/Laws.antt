@@ -9,7 +9,8 @@ use lib.Dec.{leb}
 use lib.IntN.{ℤ}
 use lib.ListN.{length, set, length-set}
 use Rattle.base.specs.If.{if_then_else_}
-use Rattle.base.specs.Overwrite.{putAt, put-nil}
+use Rattle.base.specs.Overwrite.{putAt}
+use Rattle.base.proofs.OverwriteLaws.{put-nil}
 use Rattle.expansion.specs.declared.Item.{Item}
 use Rattle.expansion.specs.declared.Item.the-variants as I
 use Rattle.print.specs.Emit.{emitted}

@@ -7,7 +7,8 @@ use Prim.Native.Nat.{ℕ, _+_, _≤_}
 use lib.ListN.{length}
 use Rattle.print.specs.Bounds.{printedMost}
 use Rattle.print.specs.Emit.{emitted}
-use Rattle.expansion.specs.Machine.{Machine, Effect, prints, pushes, stores, increments, toElse, toEnd, stored, incremented, withArguments}
+use Rattle.expansion.specs.Machine.{Machine, Effect, prints, pushes, stores, increments, toElse, toEnd, stored}
+use Rattle.expansion.specs.Machine.{incremented, withArguments}
 use Rattle.machine.specs.declared.Step.{Step}
 use Rattle.machine.specs.declared.Step.the-variants.{Push, Go, Pass}
 

@@ -1,5 +1,6 @@
-// The machine that expands a string, item by item (document 01: Expansion): how many values an item pops, its class, and what it does once
-// its values are popped. Proved: each function is its definition of expansion/specs. Assumed: nothing.
+// The machine that expands a string, item by item (document 01: Expansion): how many values an item pops, its class,
+// and what it does once its values are popped. Proved: each function is its definition of expansion/specs. Assumed:
+// nothing.
 ghost use mathlib.Core.Path.{_≡_};
 ghost use mathlib.Core.List.{List};
 ghost use Prim.Native.Nat.{_-_, _≤_};
@@ -16,8 +17,8 @@ use variables::load;
 use variables::store;
 use variables::value_at;
 
-// What an item comes to once its values are popped: a value to push; the output's length; or items to pass over, up to the level's `%;` and
-// with it, or to its next `%e` where the flag is set and there is one.
+// What an item comes to once its values are popped: a value to push; the output's length; or items to pass over, up
+// to the level's `%;` and with it, or to its next `%e` where the flag is set and there is one.
 pub enum Step {
     Push(i32),
     Go(usize),
@@ -92,7 +93,11 @@ pub fn take(
     written: usize,
 ) -> Step
     requires { ⌜ (written ≤ outputMost) × (length (now arguments) ≡ 9) ⌝ }
-    ensures { λ r. ⌜ ((stack : List Value) → SteppedAs (effect item (machine stack (now (arguments .entry)) (now (locals .entry)) (now (lasting .entry))) a b) written (machine stack (now (arguments .entry)) (now (locals .entry)) (now (lasting .entry))) (machine stack (now (arguments .exit)) (now (locals .exit)) (now (lasting .exit))) (now (out .entry)) (now (out .exit)) r) ⌝ }
+    ensures { λ r. ⌜ ((stack : List Value)
+        → SteppedAs (effect item (machine stack (now (arguments .entry)) (now (locals .entry)) (now (lasting .entry)))
+        a b) written (machine stack (now (arguments .entry)) (now (locals .entry)) (now (lasting .entry)))
+        (machine stack (now (arguments .exit)) (now (locals .exit)) (now (lasting .exit))) (now (out .entry))
+        (now (out .exit)) r) ⌝ }
 {
     match item {
         Item::Byte(c) => {

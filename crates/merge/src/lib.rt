@@ -1,5 +1,6 @@
-// Merges compiled entries (document 01: Compiled entry, order of merging). Proved: `merge` answers every edition and every two
-// slices of bytes as `merging` of entry/specs says, and a refusal leaves the buffer as it was. Assumed: nothing.
+// Merges compiled entries (document 01: Compiled entry, order of merging). Proved: `merge` answers every edition and
+// every two slices of bytes as `merging` of entry/specs says, and a refusal leaves the buffer as it was. Assumed:
+// nothing.
 ghost use mathlib.Core.Path.{_≡_};
 ghost use mathlib.Core.List.{_++_};
 ghost use lib.ListN.{length};
@@ -22,7 +23,8 @@ use entry::Merged;
 use entry::Tables;
 use merge_states::TableSize;
 
-// A string's start and length before it is filled, which nobody reads. Not 0, so that vector instructions store it and no memset.
+// A string's start and length before it is filled, which nobody reads. Not 0, so that vector instructions store it
+// and no memset.
 const UNFILLED: usize = 1;
 
 // Writes what is handed over, if the file fits. Its strings stand in the two files, and their table has so many bytes.
@@ -40,8 +42,14 @@ fn write_fitting(
     table: usize,
     buffer: &mut [u8],
 ) -> Merged
-    requires { ⌜ Ready edition (handed (now names) (now «boolean_kinds») (now «number_kinds») (now «number_values») (now «string_kinds») (now «string_starts») (now «string_lengths») (now first ++ now second)) (now first) (now second) table ⌝ }
-    ensures { λ r. ⌜ Fitted (encode (entryOf edition (handed (now (names .entry)) (now («boolean_kinds» .entry)) (now («number_kinds» .entry)) (now («number_values» .entry)) (now («string_kinds» .entry)) (now («string_starts» .entry)) (now («string_lengths» .entry)) (now (first .entry) ++ now (second .entry))))) (now (buffer .entry)) (now (buffer .exit)) (saysMerged r) ⌝ }
+    requires { ⌜ Ready edition (handed (now names) (now «boolean_kinds») (now «number_kinds») (now «number_values»)
+        (now «string_kinds») (now «string_starts») (now «string_lengths») (now first ++ now second)) (now first)
+        (now second) table ⌝ }
+    ensures { λ r. ⌜ Fitted (encode (entryOf edition
+        (handed (now (names .entry)) (now («boolean_kinds» .entry)) (now («number_kinds» .entry))
+        (now («number_values» .entry)) (now («string_kinds» .entry)) (now («string_starts» .entry))
+        (now («string_lengths» .entry)) (now (first .entry) ++ now (second .entry))))) (now (buffer .entry))
+        (now (buffer .exit)) (saysMerged r) ⌝ }
 {
     let s = write_file::sizes_with(edition, names, table);
     let size = write_file::file_size(s);
@@ -81,8 +89,11 @@ fn merge_filled(
     table: usize,
     buffer: &mut [u8],
 ) -> Merged
-    requires { ⌜ BothOpened edition (now first) t (now second) u × (Measured edition (now first) (now second) (now «string_kinds») (now «string_starts») (now «string_lengths») table × StringsGiven edition (now «string_kinds») (now «string_starts») (now «string_lengths»)) ⌝ }
-    ensures { λ r. ⌜ Merges edition (now (first .entry)) (now (second .entry)) (now (buffer .entry)) (now (buffer .exit)) (saysMerged r) ⌝ }
+    requires { ⌜ BothOpened edition (now first) t (now second) u
+        × (Measured edition (now first) (now second) (now «string_kinds») (now «string_starts») (now «string_lengths»)
+        table × StringsGiven edition (now «string_kinds») (now «string_starts») (now «string_lengths»)) ⌝ }
+    ensures { λ r. ⌜ Merges edition (now (first .entry)) (now (second .entry)) (now (buffer .entry))
+        (now (buffer .exit)) (saysMerged r) ⌝ }
 {
     let mut boolean_kinds = [0u8; BOOLEANS_MOST];
     let mut number_kinds = [0u8; NUMBERS_MOST];
@@ -116,7 +127,8 @@ fn merge_filled(
     )
 }
 
-// Merges two files that are opened in the edition. Both are accepted, so a string table that is too large is refused at once.
+// Merges two files that are opened in the edition. Both are accepted, so a string table that is too large is refused
+// at once.
 fn merge_opened(
     first: &[u8],
     t: Tables,
@@ -126,7 +138,8 @@ fn merge_opened(
     buffer: &mut [u8],
 ) -> Merged
     requires { ⌜ BothOpened edition (now first) t (now second) u ⌝ }
-    ensures { λ r. ⌜ Merges edition (now (first .entry)) (now (second .entry)) (now (buffer .entry)) (now (buffer .exit)) (saysMerged r) ⌝ }
+    ensures { λ r. ⌜ Merges edition (now (first .entry)) (now (second .entry)) (now (buffer .entry))
+        (now (buffer .exit)) (saysMerged r) ⌝ }
 {
     let mut kinds = [0u8; STRINGS_MOST];
     let mut starts = [UNFILLED; STRINGS_MOST];
@@ -160,7 +173,8 @@ fn merge_opened(
 // Merges a file that is opened in the edition over one that is still to be judged.
 fn merge_over(first: &[u8], t: Tables, second: &[u8], edition: Edition, buffer: &mut [u8]) -> Merged
     requires { ⌜ OpenedAs edition (now first) t ⌝ }
-    ensures { λ r. ⌜ Merges edition (now (first .entry)) (now (second .entry)) (now (buffer .entry)) (now (buffer .exit)) (saysMerged r) ⌝ }
+    ensures { λ r. ⌜ Merges edition (now (first .entry)) (now (second .entry)) (now (buffer .entry))
+        (now (buffer .exit)) (saysMerged r) ⌝ }
 {
     match read::judge(second) {
         Judged::Accepted(s) => merge_opened(first, t, second, read::tables_for(s), edition, buffer),
@@ -170,7 +184,8 @@ fn merge_over(first: &[u8], t: Tables, second: &[u8], edition: Edition, buffer: 
 
 // Merges the first file over the second at the buffer's start, or refuses and leaves the buffer as it is.
 pub fn merge(first: &[u8], second: &[u8], edition: Edition, buffer: &mut [u8]) -> Merged
-    ensures { λ r. ⌜ Leaves (merging edition (now (first .entry)) (now (second .entry)) (length (now (buffer .entry)))) (now (buffer .entry)) (now (buffer .exit)) (saysMerged r) ⌝ }
+    ensures { λ r. ⌜ Leaves (merging edition (now (first .entry)) (now (second .entry))
+        (length (now (buffer .entry)))) (now (buffer .entry)) (now (buffer .exit)) (saysMerged r) ⌝ }
 {
     if !edition::edition_ok(edition) {
         return Merged::Refused(FileRefusal::Counts);

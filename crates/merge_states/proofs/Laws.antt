@@ -12,7 +12,8 @@ use lib.Seq.{getD-set-same, getD-set-other, drop-append-add}
 use borrow.Author.Count.{below-more}
 use borrow.Author.Tests.{lt-ltb, le-leb, lt-leb, ne-eqb}
 use Rattle.base.specs.If.{if_then_else_}
-use Rattle.base.specs.Tabulate.{tabulate, tabulate-ext}
+use Rattle.base.specs.Tabulate.{tabulate}
+use Rattle.base.proofs.TabulateLaws.{tabulate-ext}
 use Rattle.base.specs.Overwrite.{putAt}
 use Rattle.edition.specs.declared.Edition.{Edition}
 use Rattle.edition.specs.declared.Place.{Place}
@@ -35,7 +36,7 @@ use Rattle.entry.specs.Asking.{opening, asking, askingNames, askingBoolean, ask
 use Rattle.entry.specs.Writing.{Handed, stateOf, stringHanded, stringTable, sizesFor, encode, entryOf, fitting}
 use Rattle.entry.specs.Merging.{over, mergedBoolean, mergedNumber, mergedString, merged, merging}
 use Rattle.entry.specs.Says.{saysBoolean, saysNumber, saysString}
-use Rattle.entry_laws.specs.Accepted.{Accepted, passed, reading-accepted, names-most}
+use Rattle.entry_laws.specs.Accepted.{Accepted, test-passed, reading-accepted, names-most}
 use Rattle.entry_laws.specs.Asked.{asking-gives}
 use Rattle.entry_laws.specs.Parts.{length-encode}
 use Rattle.entry_laws.specs.Merge.{given-andThen, edition-counts}
@@ -71,7 +72,7 @@ module _ {e : Edition} {f : List ℕ} {t : Tables} (o : OpenedAs e f t) where
 
   pub opened-edition : okEdition e ≡ true
   unfolding opening
-  opened-edition = passed (okEdition e) 3 [] _ _ (sym (o .given)) .0
+  opened-edition = test-passed (okEdition e) 3 [] _ _ (sym (o .given)) .0
 
   -- the names, as the part between a start and an end
   pub opened-names : (q : Part) → gives q ≡ askingNames e f → take (q .start + q .length - q .start) (drop (q .start) f) ≡ bytesOf f (namesPart (sizesOf f))

@@ -1,5 +1,5 @@
--- What a merge hands to the writer: the state of each place, the first file's over the second's. Strings are parts of the first file
--- and the second behind it.
+-- What a merge hands to the writer: the state of each place, the first file's over the second's. Strings are parts of
+-- the first file and the second behind it.
 -- Assumes nothing.
 use mathlib.Core.Path.{_≡_}
 use mathlib.Core.List.{List, _++_}
@@ -58,7 +58,8 @@ abbrev pub BooleansFilled : ℕ → (a b kinds : List ℕ) → Type 0
 BooleansFilled n a b kinds = (i : ℕ) → i < n → stateOf (getD kinds i 0) tt ≡ mergedBoolean a b (place i)
 
 abbrev pub NumbersFilled : ℕ → (a b kinds values : List ℕ) → Type 0
-NumbersFilled n a b kinds values = (i : ℕ) → i < n → stateOf (getD kinds i 0) (getD values i 0) ≡ mergedNumber a b (place i)
+NumbersFilled n a b kinds values =
+    (i : ℕ) → i < n → stateOf (getD kinds i 0) (getD values i 0) ≡ mergedNumber a b (place i)
 
 -- the string is the merged one, and a present one's content lies in one of the two files
 pub record StringFilled (a b : List ℕ) (p : Place) (kind start size : ℕ) : Type 0 where
@@ -66,7 +67,8 @@ pub record StringFilled (a b : List ℕ) (p : Place) (kind start size : ℕ) : T
   pub lent : kind ≡ 1 → InPools start size a b
 
 abbrev pub StringsFilled : ℕ → (a b kinds starts lengths : List ℕ) → Type 0
-StringsFilled n a b kinds starts lengths = (i : ℕ) → i < n → StringFilled a b (place i) (getD kinds i 0) (getD starts i 0) (getD lengths i 0)
+StringsFilled n a b kinds starts lengths =
+    (i : ℕ) → i < n → StringFilled a b (place i) (getD kinds i 0) (getD starts i 0) (getD lengths i 0)
 
 -- ---- the string table of the merged entry
 
@@ -91,7 +93,8 @@ pub record StringsGiven (e : Edition) (kinds starts lengths : List ℕ) : Type 0
   pub startsGiven : e .strings ≤ length starts
   pub lengthsGiven : e .strings ≤ length lengths
 
--- ---- what is handed over can be put, and its string table has so many bytes: room and the file's most bytes are still to be tested
+-- ---- what is handed over can be put, and its string table has so many bytes: room and the file's most bytes are
+-- still to be tested
 
 pub record Ready (e : Edition) (h : Handed) (first second : List ℕ) (table : ℕ) : Type 0 where
   pub given : Given e h

@@ -1,11 +1,13 @@
-// The states that a merge hands to the writer, by place: the first file's unless absent, then the second's (document 01: Compiled entry).
-// Proved: each function fills its arrays as specs/ says. Assumed: nothing.
+// The states that a merge hands to the writer, by place: the first file's unless absent, then the second's (document
+// 01: Compiled entry). Proved: each function fills its arrays as specs/ says. Assumed: nothing.
 ghost use mathlib.Core.Path.{_≡_};
 ghost use Prim.Native.Nat.{_<_, _≤_};
 ghost use lib.ListN.{length};
 ghost use Rattle.entry.specs.Writing.{stateOf};
 ghost use Rattle.entry.specs.Merging.{mergedBoolean, mergedNumber};
-ghost use Rattle.merge_states.specs.Filled.{booleanKind, handedNumber, handedString, BothOpened, BooleansFilled, NumbersFilled, StringFilled, StringsMeasured, StringsGiven};
+ghost use Rattle.merge_states.specs.Filled.{booleanKind, handedNumber, handedString, BothOpened};
+ghost use Rattle.merge_states.specs.Filled.{BooleansFilled, NumbersFilled, StringFilled, StringsMeasured};
+ghost use Rattle.merge_states.specs.Filled.{StringsGiven};
 use edition::Edition;
 use edition::Place;
 use entry::ABSENT;
@@ -170,7 +172,8 @@ pub fn fill_booleans(
     edition: Edition,
 )
     requires { ⌜ BothOpened edition (now first) t (now second) u × (edition .booleans ≤ length (now kinds)) ⌝ }
-    ensures { λ _. ⌜ BooleansFilled (edition .booleans) (now (first .entry)) (now (second .entry)) (now (kinds .exit)) ⌝ }
+    ensures { λ _. ⌜ BooleansFilled (edition .booleans) (now (first .entry)) (now (second .entry)) (now (kinds .exit))
+        ⌝ }
 {
     let mut i = 0;
     while i < edition.booleans {
@@ -189,8 +192,10 @@ pub fn fill_numbers(
     u: Tables,
     edition: Edition,
 )
-    requires { ⌜ BothOpened edition (now first) t (now second) u × ((edition .numbers ≤ length (now kinds)) × (edition .numbers ≤ length (now values))) ⌝ }
-    ensures { λ _. ⌜ NumbersFilled (edition .numbers) (now (first .entry)) (now (second .entry)) (now (kinds .exit)) (now (values .exit)) ⌝ }
+    requires { ⌜ BothOpened edition (now first) t (now second) u
+        × ((edition .numbers ≤ length (now kinds)) × (edition .numbers ≤ length (now values))) ⌝ }
+    ensures { λ _. ⌜ NumbersFilled (edition .numbers) (now (first .entry)) (now (second .entry)) (now (kinds .exit))
+        (now (values .exit)) ⌝ }
 {
     let mut i = 0;
     while i < edition.numbers {
@@ -212,8 +217,10 @@ pub fn fill_strings(
     u: Tables,
     edition: Edition,
 ) -> TableSize
-    requires { ⌜ BothOpened edition (now first) t (now second) u × StringsGiven edition (now kinds) (now starts) (now lengths) ⌝ }
-    ensures { λ r. ⌜ StringsMeasured edition (now (first .entry)) (now (second .entry)) (now (kinds .exit)) (now (starts .exit)) (now (lengths .exit)) r ⌝ }
+    requires { ⌜ BothOpened edition (now first) t (now second) u
+        × StringsGiven edition (now kinds) (now starts) (now lengths) ⌝ }
+    ensures { λ r. ⌜ StringsMeasured edition (now (first .entry)) (now (second .entry)) (now (kinds .exit))
+        (now (starts .exit)) (now (lengths .exit)) r ⌝ }
 {
     let mut table = 0;
     let mut i = 0;

@@ -6,7 +6,8 @@ use Prim.Native.Nat.{ℕ, _+_, _<_}
 use lib.Dec.{ltb}
 use lib.ListN.{length, getD}
 use borrow.Author.Tests.{lt-ltb, le-ltb}
-use Rattle.base.specs.If.{if_then_else_, below-or}
+use Rattle.base.specs.If.{if_then_else_}
+use Rattle.base.proofs.IfLaws.{below-or}
 use Rattle.edition.specs.declared.Place.{Place}
 use Rattle.edition.specs.declared.Kind.the-variants as Kinds
 use Rattle.base.specs.Answer.{Answer, refused, gives}

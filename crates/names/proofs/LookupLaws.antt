@@ -11,15 +11,17 @@ use lib.Dec.{eqb, leb, ltb, lit<, lit≤}
 use lib.ListN.{length, getD, take, length-take, List·getD-append, List·getD-eq-default}
 use lib.Seq.{getD-append-add, getD-take, ext-getD}
 use borrow.Author.Tests.{ltb-true, leb-true, eqb-true, eq-eqb, ne-eqb, le-leb, lt-ltb, le-ltb}
-use Rattle.base.specs.If.{if_then_else_, true-false, and-left, and-right, below-or}
-use Rattle.base.specs.Scan.{scan-ext}
+use Rattle.base.specs.If.{if_then_else_}
+use Rattle.base.proofs.IfLaws.{true-false, and-left, and-right, below-or}
+use Rattle.base.proofs.ScanLaws.{scan-ext}
 use Rattle.word.specs.Word.{word}
 use Rattle.edition.specs.declared.Edition.{Edition}
 use Rattle.edition.specs.Edition.{place}
 use Rattle.names.specs.declared.Found.{Found}
 use Rattle.names.specs.declared.Found.the-variants as F
 use Rattle.names.specs.Names.{ascii, parted, named, booleanNames, numberNames, stringNames, allNames}
-use Rattle.names.specs.Naming.{packed, packedNames, packed-at}
+use Rattle.names.specs.Naming.{packed, packedNames}
+use Rattle.names.proofs.NamingLaws.{packed-at}
 use Rattle.names.specs.Lookup.{sameBytes, placeIn, isThere, lookingUp}
 use Rattle.names.specs.Searching.{fitsTable, sought, searching}
 use Rattle.names.proofs.Places.{all, all-at, differs, differs-ne, placed-number, only-place, no-place}

@@ -1,4 +1,5 @@
 pub mod Names
 pub mod Naming
 pub mod Lookup
+pub mod Finding
 pub mod Searching

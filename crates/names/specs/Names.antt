@@ -17,18 +17,19 @@ unfoldable pub ascii : String → List ℕ
 ascii empty = []
 ascii (join c s) = code c ∷ ascii s
 
--- one more byte in front of the first name
+-- one more byte in front of the first part
 abbrev pub onFirst : ℕ → List (List ℕ) → List (List ℕ)
 onFirst b [] = (b ∷ []) ∷ []
 onFirst b (n ∷ ns) = (b ∷ n) ∷ ns
 
--- the names between single spaces
-unfoldable pub parted : List ℕ → List (List ℕ)
-parted [] = [] ∷ []
-parted (b ∷ s) = if eqb b 32 then [] ∷ parted s else onFirst b (parted s)
+-- the parts of bytes between single marks
+unfoldable pub parted : ℕ → List ℕ → List (List ℕ)
+parted mark [] = [] ∷ []
+parted mark (b ∷ s) = let rest : List (List ℕ) = parted mark s in if eqb b mark then [] ∷ rest else onFirst b rest
 
+-- the names between single spaces
 unfoldable pub named : String → List (List ℕ)
-named s = parted (ascii s)
+named s = parted (code " ") (ascii s)
 
 -- Booleans, 21 in the first edition
 unfoldable pub booleanNames : List (List ℕ)
@@ -40,7 +41,14 @@ numberNames = named "cols it lines lm xmc pb vt wsl"
 
 -- Strings, 138
 unfoldable pub stringNames : List (List ℕ)
-stringNames = named "cbt bel cr csr tbc clear el ed hpa cmdch cup cud1 home civis cub1 mrcup cnorm cuf1 ll cuu1 cvvis dch1 dl1 dsl hd smacs blink bold smcup smdc dim smir invis prot rev smso smul ech rmacs sgr0 rmcup rmdc rmir rmso rmul flash ff fsl is1 is2 is3 if ich1 il1 ip kbs ktbc kclr kctab kdch1 kdl1 kcud1 krmir kel ked kf0 kf1 kf10 kf2 kf3 kf4 kf5 kf6 kf7 kf8 kf9 khome kich1 kil1 kcub1 kll knp kpp kcuf1 kind kri khts kcuu1 rmkx smkx lf0 lf1 lf10 lf2 lf3 lf4 lf5 lf6 lf7 lf8 lf9 rmm smm nel pad dch dl cud ich indn il cub cuf rin cuu pfkey pfloc pfx mc0 mc4 mc5 rep rs1 rs2 rs3 rf rc vpa sc ind ri sgr hts wind ht tsl uc hu"
+stringNames =
+    named "cbt bel cr csr tbc clear el ed hpa cmdch cup cud1 home civis cub1 mrcup cnorm cuf1 ll cuu1"
+    ++ (named "cvvis dch1 dl1 dsl hd smacs blink bold smcup smdc dim smir invis prot rev smso smul ech"
+    ++ (named "rmacs sgr0 rmcup rmdc rmir rmso rmul flash ff fsl is1 is2 is3 if ich1 il1 ip kbs ktbc kclr"
+    ++ (named "kctab kdch1 kdl1 kcud1 krmir kel ked kf0 kf1 kf10 kf2 kf3 kf4 kf5 kf6 kf7 kf8 kf9 khome"
+    ++ (named "kich1 kil1 kcub1 kll knp kpp kcuf1 kind kri khts kcuu1 rmkx smkx lf0 lf1 lf10 lf2 lf3 lf4"
+    ++ (named "lf5 lf6 lf7 lf8 lf9 rmm smm nel pad dch dl cud ich indn il cub cuf rin cuu pfkey pfloc pfx"
+    ++ named "mc0 mc4 mc5 rep rs1 rs2 rs3 rf rc vpa sc ind ri sgr hts wind ht tsl uc hu")))))
 
 -- the names of a kind of capability
 abbrev pub namesOf : Kind → List (List ℕ)

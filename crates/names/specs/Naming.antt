@@ -1,10 +1,9 @@
 -- Names by kind and place, and as the code's table has them.
 -- Assumes nothing.
-use mathlib.Core.Path.{_≡_, refl}
 use mathlib.Core.List.{List, [], _∷_, map}
 use Prim.Native.Nat.{ℕ}
 use lib.Dec.{eqb}
-use lib.ListN.{length, getD, List·getD-map}
+use lib.ListN.{length, getD}
 use Rattle.base.specs.If.{if_then_else_}
 use Rattle.word.specs.Word.{word, bytes}
 use Rattle.edition.specs.declared.Kind.{Kind}
@@ -13,7 +12,7 @@ use Rattle.edition.specs.Edition.{knows}
 use Rattle.base.specs.Answer.{Answer, refused, gives}
 use Rattle.names.specs.declared.Name.{Name}
 use Rattle.names.specs.declared.Name.the-variants as N
-use Rattle.names.specs.Names.{ascii, parted, named, booleanNames, numberNames, stringNames, namesOf, allNames}
+use Rattle.names.specs.Names.{namesOf, allNames}
 
 -- a name of at most eight bytes as a number, low byte first
 unfoldable pub packed : List ℕ → ℕ
@@ -38,15 +37,3 @@ saysName N.Beyond = refused 17 []
 -- all names as the code's table has them
 unfoldable pub packedNames : List ℕ
 packedNames = map packed allNames
-
--- ---- laws
-
--- one computed test: every name comes back from its number
-pub unpacked-all : map unpacked packedNames ≡ allNames
-unfolding packedNames packed unpacked beforeNul word bytes allNames booleanNames numberNames stringNames named parted ascii
-unpacked-all = refl
-
--- the number at each place is the name's
-pub packed-at : (k : ℕ) → getD packedNames k 0 ≡ packed (getD allNames k [])
-unfolding packedNames packed word
-packed-at k = List·getD-map packed allNames k []

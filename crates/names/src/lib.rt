@@ -1,5 +1,5 @@
-// The names of the three ordered lists, in compiled order (document 01: Three ordered lists). Proved: the table is the lists of
-// specs/Names.antt, and `name_of` answers every kind and place. Assumed: nothing.
+// The names of the three ordered lists, in compiled order (document 01: Three ordered lists). Proved: the table is
+// the lists of specs/Names.antt, and `name_of` answers every kind and place. Assumed: nothing.
 ghost use mathlib.Core.Path.{_≡_};
 ghost use mathlib.Core.List.{[]};
 ghost use Prim.Native.Nat.{_+_, _<_, _≤_};
@@ -221,7 +221,8 @@ fn packed_name(k: usize) -> u64
 // The name at a place of the list of count names that starts at first among all names.
 fn name_in(first: usize, count: usize, place: Place) -> Name
     requires { ⌜ first + count ≤ 167 ⌝ }
-    ensures { λ r. ⌜ saysName r ≡ (if ltb (place .0) count then gives (packed (getD allNames (first + place .0) [])) else refused 17 []) ⌝ }
+    ensures { λ r. ⌜ saysName r ≡ (if ltb (place .0) count then gives (packed (getD allNames (first + place .0) []))
+        else refused 17 []) ⌝ }
 {
     if count <= place.0 {
         return Name::Beyond;

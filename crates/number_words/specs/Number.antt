@@ -48,7 +48,8 @@ noMagnitude = 4294967296
 unfoldable pub withDigit : ℕ → ℕ → ℕ
 withDigit n c =
     if isDigit c then
-    (if leb n (magnitudeMost true) then (if leb (n * 10 + (c - 48)) (magnitudeMost true) then n * 10 + (c - 48) else noMagnitude) else noMagnitude)
+    (if leb n (magnitudeMost true) then (if leb (n * 10 + (c - 48)) (magnitudeMost true) then n * 10 + (c - 48)
+    else noMagnitude) else noMagnitude)
     else noMagnitude
 
 unfoldable pub magnitudeOf : List ℕ → ℕ

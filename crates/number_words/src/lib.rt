@@ -1,4 +1,5 @@
-// Numbers as words of a command line. Proved: `parse` gives what specs/Number.antt says of every word. Assumed: nothing.
+// Numbers as words of a command line. Proved: `parse` gives what specs/Number.antt says of every word. Assumed:
+// nothing.
 ghost use mathlib.Core.Path.{_≡_};
 ghost use mathlib.Core.Bool.{true, false};
 ghost use Rattle.number_words.specs.Number.{signedOf, valueOf, withDigit, magnitudeOf};

@@ -8,8 +8,9 @@ use native.Mathlib.Omega.{arith}
 use lib.Dec.{ltb}
 use lib.ListN.{length, getD}
 use borrow.Author.Tests.{lt-ltb, le-ltb, ltb-true, eq-eqb, ne-eqb}
-use Rattle.base.specs.If.{if_then_else_, true-false, and-right}
-use Rattle.base.specs.Scan.{scan-ge}
+use Rattle.base.specs.If.{if_then_else_}
+use Rattle.base.proofs.IfLaws.{true-false, and-right}
+use Rattle.base.proofs.ScanLaws.{scan-ge}
 use Rattle.word.specs.Word.{word}
 use Rattle.word.specs.Nul.{notNul, nulFrom}
 use Rattle.edition.specs.declared.Edition.{Edition}
@@ -26,7 +27,7 @@ use Rattle.entry.specs.Layout.{sizesOf, stringsAt, tableAt, sizeOf, tablesOf}
 use Rattle.entry.specs.Reading.{bytesOf, offset, okOffset, reading, namesPart, booleanIn, slotIn, numberIn, offsetIn, contentAt, partIn}
 use Rattle.entry.specs.Asking.{Opening, openingOf, opening, asking, askingNames, askingBoolean, askingNumber, askingString}
 use Rattle.entry_laws.specs.Slots.{Passes, slot-in}
-use Rattle.entry_laws.specs.Accepted.{Accepted, passed, accepted-facts, reading-accepted, counts-names-least, offset-fits}
+use Rattle.entry_laws.specs.Accepted.{Accepted, test-passed, accepted-facts, reading-accepted, counts-names-least, offset-fits}
 use Rattle.entry_laws.specs.Asked.{asking-gives}
 use Rattle.file_tables.specs.Framed.{Framed}
 use Rattle.file_tables.proofs.Laws.{at-booleans, at-numbers, at-strings, at-table, in-booleans, in-numbers, in-strings}
@@ -78,7 +79,7 @@ module _ {e : Edition} {f : List ℕ} {t : Tables} (o : OpenedAs e f t) where
   unfolding opening
   opened-tables =
       let x : Opening = record { tables = t; beyond = o .beyond } in
-      let p : mapAnswer (openingOf e) (reading f) ≡ gives x = passed (okEdition e) 3 [] (mapAnswer (openingOf e) (reading f)) x (sym (o .given)) .1 in
+      let p : mapAnswer (openingOf e) (reading f) ≡ gives x = test-passed (okEdition e) 3 [] (mapAnswer (openingOf e) (reading f)) x (sym (o .given)) .1 in
       let q : gives (openingOf e (sizesOf f)) ≡ gives x = ap (mapAnswer (openingOf e)) (sym (reading-accepted f opened-file)) ∙ p in
       let z : openingOf e (sizesOf f) ≡ x = cc in
       sym (ap (λ (y : Opening). y .tables) z)

@@ -1,5 +1,6 @@
-// Names and states of a file that is opened in the edition: the caller holds the tables or the answer that opening gave, and the file is not
-// checked again. Proved: each function answers as the definition of entry/specs that its contract names. Assumed: nothing.
+// Names and states of a file that is opened in the edition: the caller holds the tables or the answer that opening
+// gave, and the file is not checked again. Proved: each function answers as the definition of entry/specs that its
+// contract names. Assumed: nothing.
 ghost use mathlib.Core.Path.{_≡_};
 ghost use Prim.Native.Nat.{_+_, _*_, _<_, _≤_};
 ghost use lib.ListN.{length};
@@ -111,7 +112,8 @@ pub fn number_opened(file: &[u8], edition: Edition, t: Tables, place: Place) -> 
 // The slot of the string at a place: an offset into the string table, or a mark.
 fn offset_at(file: &[u8], edition: Edition, t: Tables, place: Place) -> OffsetSlot
     requires { ⌜ OpenedAs edition (now file) t ⌝ }
-    ensures { λ r. ⌜ (saysOffset r ≡ offsetIn (now (file .entry)) (sizesOf (now (file .entry))) place) × OffsetFits r ⌝ }
+    ensures { λ r. ⌜ (saysOffset r ≡ offsetIn (now (file .entry)) (sizesOf (now (file .entry))) place)
+        × OffsetFits r ⌝ }
 {
     match slot_at(file, t.strings_at, t.strings, place) {
         Slot::Absent => OffsetSlot::Absent,

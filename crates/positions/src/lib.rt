@@ -1,4 +1,5 @@
-// The line and the column of a place in a text. Proved: `position_of` gives what specs/Position.antt says. Assumed: nothing.
+// The line and the column of a place in a text. Proved: `position_of` gives what specs/Position.antt says. Assumed:
+// nothing.
 ghost use mathlib.Core.Path.{_≡_};
 ghost use Prim.Native.Nat.{_≤_, min};
 ghost use lib.ListN.{length};
@@ -20,7 +21,8 @@ fn least(a: usize, b: usize) -> usize
 // The position of a place in a text; a place past its end is taken for its end.
 pub fn position_of(text: &[u8], place: usize) -> Position
     requires { ⌜ length (now text) ≤ textRoom ⌝ }
-    ensures { λ r. ⌜ (r .line ≡ lineOf (now (text .entry)) (min place (length (now (text .entry))))) × (r .column ≡ columnOf (now (text .entry)) (min place (length (now (text .entry))))) ⌝ }
+    ensures { λ r. ⌜ (r .line ≡ lineOf (now (text .entry)) (min place (length (now (text .entry)))))
+        × (r .column ≡ columnOf (now (text .entry)) (min place (length (now (text .entry))))) ⌝ }
 {
     let end = least(place, text.len());
     let mut line = 1;

@@ -1,48 +1,18 @@
--- Laws of digits: one more digit, how many there are, and digits that are put from the last to the first.
+-- Laws of digits: how many there are, and digits that are put from the last to the first.
 -- Assumes nothing.
-use mathlib.Core.Path.{_≡_, refl, sym, ap, _∙_}
-use mathlib.Core.Bool.{Bool, true, false}
+use mathlib.Core.Path.{_≡_, sym, ap, _∙_}
 use mathlib.Core.List.{List, [], _∷_, _++_, append-assoc, append-nil}
 use Prim.Native.Nat.{ℕ, zero, suc, _+_, _-_, _*_, _/_, _%_, _^_, _≤_, _<_}
-use native.Mathlib.Nat.{div-lt-self, mul-le-mul-left, div-lt-iff-lt-mul, le-div-iff-mul-le, one-le-pow, pow-zero, pow-suc, lt-of-lt-of-le, one-mul, mul-one, mul-comm}
+use native.Mathlib.Nat.{mul-le-mul-left, div-lt-iff-lt-mul, le-div-iff-mul-le, one-le-pow, pow-zero, pow-suc}
+use native.Mathlib.Nat.{lt-of-lt-of-le, one-mul, mul-one, mul-comm}
 use native.Mathlib.Omega.{arith}
-use lib.Dec.{ltb}
 use lib.ListN.{length, set, take, drop, length-append}
 use lib.Seq.{set-split, take-append-le, take-take, drop-at, length-take-le}
-use borrow.Author.Tests.{lt-ltb, le-ltb, ltb-false}
-use Rattle.base.specs.If.{below-or}
-use Rattle.base.specs.Overwrite.{putAt, length-put, put-nil}
-use Rattle.expansion.specs.Print.{digitByte, digitsFrom, digits}
-
--- ---- one digit, and one digit more
-
-pub div-falls : (n b : ℕ) → 2 ≤ b → b ≤ n → n / b < n
-div-falls n b h k = div-lt-self (omega arith) (omega arith)
-
--- any count above n is enough
-enough : (f g b a n : ℕ) → 2 ≤ b → n < f → n < g → digitsFrom f b a n ≡ digitsFrom g b a n
-unfolding digitsFrom
-enough zero g b a n h p q = absurd (omega arith)
-enough (suc f) zero b a n h p q = absurd (omega arith)
-enough (suc f) (suc g) b a n h p q = by-test (ltb n b) refl (λ k l. enough f g b a (n / b) h k l)
-  where
-    by-test : (t : Bool) → ltb n b ≡ t → (n / b < f → n / b < g → digitsFrom f b a (n / b) ≡ digitsFrom g b a (n / b))
-        → digitsFrom (suc f) b a n ≡ digitsFrom (suc g) b a n
-    by-test true e again = rw (digitsFrom, e)
-    by-test false e again =
-        let l : b ≤ n = ltb-false n b e in
-        let r : n / b < n = div-falls n b h l in
-        rw (digitsFrom, e) (ap (λ (ds : List ℕ). ds ++ (digitByte a (n % b) ∷ [])) (again (omega arith) (omega arith)))
-
-pub digits-one : (b a n : ℕ) → n < b → digits b a n ≡ digitByte a n ∷ []
-unfolding digits digitsFrom
-digits-one b a n h = rw (digitsFrom, lt-ltb n b h)
-
-pub digits-more : (b a n : ℕ) → 2 ≤ b → b ≤ n → digits b a n ≡ digits b a (n / b) ++ (digitByte a (n % b) ∷ [])
-unfolding digits digitsFrom
-digits-more b a n h l =
-    rw (digitsFrom, le-ltb n b l)
-    (ap (λ (ds : List ℕ). ds ++ (digitByte a (n % b) ∷ [])) (enough n (suc (n / b)) b a (n / b) h (div-falls n b h l) (omega arith)))
+use Rattle.base.proofs.IfLaws.{below-or}
+use Rattle.base.specs.Overwrite.{putAt}
+use Rattle.base.proofs.OverwriteLaws.{length-put, put-nil}
+use Rattle.expansion.specs.Print.{digitByte, digits}
+pub use Rattle.expansion_laws.specs.Digits.{digits-one, digits-more}
 
 -- ---- how many digits
 

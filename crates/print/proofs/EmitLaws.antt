@@ -8,7 +8,8 @@ use lib.Dec.{leb}
 use lib.ListN.{length}
 use borrow.Author.Tests.{le-leb, lt-leb, leb-true}
 use Rattle.base.specs.If.{if_then_else_}
-use Rattle.base.specs.Overwrite.{putAt, length-put}
+use Rattle.base.specs.Overwrite.{putAt}
+use Rattle.base.proofs.OverwriteLaws.{length-put}
 use Rattle.print.specs.Emit.{emitted}
 
 pub emitted-fits : (b : List ℕ) (at : ℕ) (xs : List ℕ) → at + length xs ≤ length b → emitted b at xs ≡ putAt b at xs

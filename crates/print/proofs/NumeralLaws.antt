@@ -12,7 +12,8 @@ use lib.Signed.{ltZ}
 use mir.Syntax.{w32}
 use mir.Val.{SFits, ofZ}
 use borrow.Author.Tests.{ltb-true}
-use Rattle.base.specs.Overwrite.{putAt, put-run}
+use Rattle.base.specs.Overwrite.{putAt}
+use Rattle.base.proofs.OverwriteLaws.{put-run}
 use Rattle.signed.specs.Signed.{low32}
 use Rattle.signed.proofs.Laws.{low-bits}
 use Rattle.expansion.specs.declared.Base.{Base}

@@ -4,6 +4,7 @@ use mathlib.Core.Path.{_≡_}
 use mathlib.Core.Bool.{Bool, true, false}
 use mathlib.Core.List.{List, [], _∷_, _++_}
 use Prim.Native.Nat.{ℕ, _≤_}
+use Prim.Native.Char.{code}
 use lib.IntN.{ℤ}
 use lib.ListN.{replicate}
 use Rattle.base.specs.If.{if_then_else_}
@@ -12,12 +13,13 @@ use Rattle.expansion.specs.Print.{digits, sign, numeral}
 use Rattle.print.specs.declared.Numeral.{Numeral}
 
 abbrev pub minusSign : Bool → List ℕ
-minusSign true = 45 ∷ []
+minusSign true = code "-" ∷ []
 minusSign false = []
 
 -- the sign, with so many blanks before it or zeros after it
 unfoldable pub front : Bool → Bool → ℕ → List ℕ
-front minus zeros missing = if zeros then minusSign minus ++ replicate missing 48 else replicate missing 32 ++ minusSign minus
+front minus zeros missing =
+    if zeros then minusSign minus ++ replicate missing (code "0") else replicate missing (code " ") ++ minusSign minus
 
 -- n is what v is printed from in a base
 pub record NumeralOf (base : Base) (v : ℤ) (n : Numeral) : Type 0 where
@@ -25,8 +27,8 @@ pub record NumeralOf (base : Base) (v : ℤ) (n : Numeral) : Type 0 where
   pub digits-are : numeral base v ≡ digits (n .radix) (n .letters) (n .magnitude)
   pub radix-least : 2 ≤ n .radix
   pub radix-most : n .radix ≤ 16
-  pub letters-most : n .letters ≤ 97
-  pub decimal-letters : n .radix ≡ 10 → n .letters ≡ 97
+  pub letters-most : n .letters ≤ code "a"
+  pub decimal-letters : n .radix ≡ 10 → n .letters ≡ code "a"
 
 -- n is printed as decimal digits alone
 pub record Plain (n : Numeral) (width : ℕ) : Type 0 where

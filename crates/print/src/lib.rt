@@ -1,5 +1,5 @@
-// Numbers and bytes put into a buffer where they fit (document 01: Expansion). Proved: the length and the bytes are those of `printed`
-// and `emitted` of expansion/specs. Assumed: nothing.
+// Numbers and bytes put into a buffer where they fit (document 01: Expansion). Proved: the length and the bytes are
+// those of `printed` and `emitted` of expansion/specs. Assumed: nothing.
 ghost use mathlib.Core.Path.{_≡_};
 ghost use mathlib.Core.Bool.{true};
 ghost use mathlib.Core.List.{[], _∷_};
@@ -108,8 +108,10 @@ fn digit_byte(letters: u8, digit: u32) -> u8
 
 // The digits of any base, the last of them before a place.
 fn put_in_base(out: &mut [u8], end: usize, n: u32, radix: u32, letters: u8)
-    requires { ⌜ (2 ≤ radix) × (radix ≤ 16) × (letters ≤ 97) × (length (digits radix letters n) ≤ end) × (end ≤ length (now out)) ⌝ }
-    ensures { λ _. ⌜ now (out .exit) ≡ putAt (now (out .entry)) (end - length (digits radix letters n)) (digits radix letters n) ⌝ }
+    requires { ⌜ (2 ≤ radix) × (radix ≤ 16) × (letters ≤ 97) × (length (digits radix letters n) ≤ end)
+        × (end ≤ length (now out)) ⌝ }
+    ensures { λ _. ⌜ now (out .exit) ≡ putAt (now (out .entry)) (end - length (digits radix letters n))
+        (digits radix letters n) ⌝ }
 {
     let mut at = end;
     let mut left = n;
@@ -194,7 +196,8 @@ fn is_plain(n: Numeral, width: u8) -> bool
 // Puts decimal digits where they fit, and gives their length in any case.
 fn put_plain(out: &mut [u8], at: usize, n: u32) -> usize
     requires { ⌜ at ≤ outputMost ⌝ }
-    ensures { λ r. ⌜ (r ≡ length (digits 10 97 n)) × (r ≤ printedMost) × (now (out .exit) ≡ emitted (now (out .entry)) at (digits 10 97 n)) ⌝ }
+    ensures { λ r. ⌜ (r ≡ length (digits 10 97 n)) × (r ≤ printedMost)
+        × (now (out .exit) ≡ emitted (now (out .entry)) at (digits 10 97 n)) ⌝ }
 {
     let count = count_digits(n, 10);
     if out.len() < at + count {
@@ -207,7 +210,8 @@ fn put_plain(out: &mut [u8], at: usize, n: u32) -> usize
 // Puts a number in a base where it fits, and gives its length in any case.
 pub fn put_number(out: &mut [u8], at: usize, base: Base, zero: bool, width: u8, value: i32) -> usize
     requires { ⌜ at ≤ outputMost ⌝ }
-    ensures { λ r. ⌜ (r ≡ length (printed base zero width value)) × (r ≤ printedMost) × (now (out .exit) ≡ emitted (now (out .entry)) at (printed base zero width value)) ⌝ }
+    ensures { λ r. ⌜ (r ≡ length (printed base zero width value)) × (r ≤ printedMost)
+        × (now (out .exit) ≡ emitted (now (out .entry)) at (printed base zero width value)) ⌝ }
 {
     let n = numeral_of(base, value);
     if is_plain(n, width) {

@@ -11,8 +11,10 @@ use lib.ListN.{length, getD, take, drop, set, length-append, length-drop, length
 use lib.Seq.{length-take-le, take-append-le, drop-append-le, drop-append-add}
 use borrow.Author.Tests.{ne-eqb}
 use Rattle.base.specs.If.{if_then_else_}
-use Rattle.base.specs.Tabulate.{tabulate, length-tabulate, tabulate-more, map-append}
-use Rattle.base.specs.Overwrite.{putAt, put-run, put-store}
+use Rattle.base.specs.Tabulate.{tabulate}
+use Rattle.base.proofs.TabulateLaws.{length-tabulate, tabulate-more, map-append}
+use Rattle.base.specs.Overwrite.{putAt}
+use Rattle.base.proofs.OverwriteLaws.{put-run, put-store}
 use Rattle.word.specs.Word.{bytes, words}
 use Rattle.word.proofs.WordLaws.{length-bytes, length-words, words-append, words-one}
 use Rattle.entry.specs.Limits.{shortWidth}
@@ -21,7 +23,7 @@ use Rattle.entry.specs.State.{State, absent, cancelled, present, mapState, code
 use Rattle.entry.specs.Reading.{offset}
 use Rattle.entry.specs.Writing.{stateOf, offsets, stringTable, padding, offsetCode}
 use Rattle.entry_laws.specs.Handed.{state-has, state-present}
-use Rattle.put.specs.Table.{stringOf, stringAt, tableBytes, lengthAt, total, slotAt, slotsOf, Described}
+use Rattle.put.specs.Table.{stringOf, stringAt, tableBytes, lengthAt, total, slotAt, slotsOf, HasLengths}
 
 -- ---- states by kind
 
@@ -132,10 +134,10 @@ pub table-below : (g : ℕ → State (List ℕ)) (i n : ℕ) → i ≤ n → len
 table-below g = never-lower (λ k. length (stringTable (tabulate g k))) (λ k. rw (strings-more g k, length-append (stringTable (tabulate g k)) (stringTable (g k ∷ []))) (omega arith))
 
 module _ (kinds lengths : List ℕ) (g : ℕ → State (List ℕ)) where
-  pub part-length : (i n : ℕ) → Described kinds lengths g n → i < n → length (stringTable (g i ∷ [])) ≡ tableBytes (lengthAt kinds lengths i)
+  pub part-length : (i n : ℕ) → HasLengths kinds lengths g n → i < n → length (stringTable (g i ∷ [])) ≡ tableBytes (lengthAt kinds lengths i)
   part-length i n d h = length-part (g i) ∙ ap tableBytes (d i h)
 
-  pub table-total : (n : ℕ) → Described kinds lengths g n → length (stringTable (tabulate g n)) ≡ total kinds lengths n
+  pub table-total : (n : ℕ) → HasLengths kinds lengths g n → length (stringTable (tabulate g n)) ≡ total kinds lengths n
   unfolding tabulate stringTable total
   table-total zero d = refl
   table-total (suc n) d =
@@ -144,12 +146,12 @@ module _ (kinds lengths : List ℕ) (g : ℕ → State (List ℕ)) where
       let p = part-length n (suc n) d (omega arith) in
       ap (λ (k : ℕ). length (stringTable (tabulate g k))) e ∙ ap length (strings-more g n) ∙ length-append (stringTable (tabulate g n)) (stringTable (g n ∷ [])) ∙ rw (ih, p)
 
-  pub offsets-total : (n : ℕ) → Described kinds lengths g n → offsets (offset 0) (tabulate g n) ≡ slotsOf kinds lengths n
+  pub offsets-total : (n : ℕ) → HasLengths kinds lengths g n → offsets (offset 0) (tabulate g n) ≡ slotsOf kinds lengths n
   unfolding tabulate offsets
   offsets-total zero d = refl
   offsets-total (suc n) d =
       let e : suc n ≡ n + 1 = omega arith in
-      let d′ : Described kinds lengths g n = λ i h. d i (omega arith) in
+      let d′ : HasLengths kinds lengths g n = λ i h. d i (omega arith) in
       let z : 0 + length (stringTable (tabulate g n)) ≡ total kinds lengths n = (let t = table-total n d′ in omega arith) in
       let o : Offset = offset (total kinds lengths n) in
       let s : mapState (λ (t : List ℕ). o) (g n) ≡ slotAt kinds lengths n = sym (map-const length o (g n)) ∙ ap (mapState (λ (m : ℕ). o)) (d n (omega arith)) ∙ map-stateOf (λ (m : ℕ). o) (getD kinds n 0) (getD lengths n 0) in
@@ -169,7 +171,7 @@ lent-length lent k a m q = map-stateOf length k (take m (drop a lent)) ∙ elim 
 ]
 
 pub lent-described : (kinds starts lengths lent : List ℕ) (n : ℕ) → ((i : ℕ) → i < n → getD kinds i 0 ≡ 1 → getD starts i 0 + getD lengths i 0 ≤ length lent)
-    → Described kinds lengths (stringAt kinds starts lengths lent) n
+    → HasLengths kinds lengths (stringAt kinds starts lengths lent) n
 lent-described kinds starts lengths lent n l i h = lent-length lent (getD kinds i 0) (getD starts i 0) (getD lengths i 0) (l i h)
 
 -- ---- the turns of the loops that put: b holds the first i from at on
@@ -202,7 +204,7 @@ module _ {A : Type 0} (code : A → ℕ) (g : ℕ → A) where
       put-run b₀ b at (at + shortWidth * i) (words shortWidth done) (bytes shortWidth c) (words shortWidth (map code (tabulate g (i + 1)))) e (omega arith) m (rw length-bytes (omega arith))
 
 -- a string's part put by a call
-pub string-turn : (kinds lengths : List ℕ) (g : ℕ → State (List ℕ)) (b₀ b : List ℕ) (at p i n : ℕ) → Described kinds lengths g n → at + total kinds lengths n ≤ length b₀
+pub string-turn : (kinds lengths : List ℕ) (g : ℕ → State (List ℕ)) (b₀ b : List ℕ) (at p i n : ℕ) → HasLengths kinds lengths g n → at + total kinds lengths n ≤ length b₀
     → i < n → p ≡ at + total kinds lengths i → b ≡ putAt b₀ at (stringTable (tabulate g i))
     → putAt b p (stringTable (g i ∷ [])) ≡ putAt b₀ at (stringTable (tabulate g (i + 1)))
 string-turn kinds lengths g b₀ b at p i n d f h q e =

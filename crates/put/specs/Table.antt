@@ -1,4 +1,5 @@
--- States by kinds and contents, strings as parts of lent bytes, and the string table's sizes from kinds and lengths alone.
+-- States by kinds and contents, strings as parts of lent bytes, and the string table's sizes from kinds and lengths
+-- alone.
 -- Assumes nothing.
 use mathlib.Core.Path.{_≡_}
 use mathlib.Core.List.{List, _++_}
@@ -52,18 +53,20 @@ abbrev pub slotsOf : (kinds lengths : List ℕ) → ℕ → List (State Offset)
 slotsOf kinds lengths n = tabulate (slotAt kinds lengths) n
 
 -- the first n strings of g are of these kinds and lengths
-abbrev pub Described : (kinds lengths : List ℕ) → (ℕ → State (List ℕ)) → ℕ → Type 0
-Described kinds lengths g n = (i : ℕ) → i < n → mapState length (g i) ≡ lengthAt kinds lengths i
+abbrev pub HasLengths : (kinds lengths : List ℕ) → (ℕ → State (List ℕ)) → ℕ → Type 0
+HasLengths kinds lengths g n = (i : ℕ) → i < n → mapState length (g i) ≡ lengthAt kinds lengths i
 
 -- ---- two lent slices, read one behind the other
 
 -- size bytes from start on lie in what is lent, and in one of the two slices
 abbrev pub InPools : ℕ → ℕ → List ℕ → List ℕ → Type 0
-InPools start size first second = (start + size ≤ length (first ++ second)) × (start < length first → start + size ≤ length first)
+InPools start size first second =
+    (start + size ≤ length (first ++ second)) × (start < length first → start + size ≤ length first)
 
 -- each present string of the first n
 abbrev pub AllInPools : (kinds starts lengths first second : List ℕ) → ℕ → Type 0
-AllInPools kinds starts lengths first second n = (i : ℕ) → i < n → getD kinds i 0 ≡ 1 → InPools (getD starts i 0) (getD lengths i 0) first second
+AllInPools kinds starts lengths first second n =
+    (i : ℕ) → i < n → getD kinds i 0 ≡ 1 → InPools (getD starts i 0) (getD lengths i 0) first second
 
 -- the strings are given, lie in what is lent, and their table fits into b from at on
 pub record TableFits (b : List ℕ) (at : ℕ) (kinds starts lengths first second : List ℕ) (n : ℕ) : Type 0 where

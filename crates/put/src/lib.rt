@@ -1,5 +1,5 @@
-// The parts of a written file, each put into a buffer from a place on; the buffer's other bytes stay (document 01: Compiled
-// entry). Proved: each part as `encode` of entry/specs has it. Assumed: nothing.
+// The parts of a written file, each put into a buffer from a place on; the buffer's other bytes stay (document 01:
+// Compiled entry). Proved: each part as `encode` of entry/specs has it. Assumed: nothing.
 ghost use mathlib.Core.Path.{_≡_};
 ghost use mathlib.Core.List.{[], _∷_, _++_, map};
 ghost use Prim.Native.Nat.{_+_, _*_, _<_, _≤_, _^_};
@@ -9,7 +9,8 @@ ghost use Rattle.word.specs.Word.{bytes, words};
 ghost use Rattle.entry.specs.Limits.{numberWidth, offsetWidth, shortWidth};
 ghost use Rattle.entry.specs.State.{booleanCode, codeOf};
 ghost use Rattle.entry.specs.Writing.{header, padding, numberCode, offsetCode, stringTable, stateOf};
-ghost use Rattle.put.specs.Table.{booleansOf, numbersOf, slotsOf, stringOf, stringsOf, tableBytes, total, InPools, TableFits};
+ghost use Rattle.put.specs.Table.{booleansOf, numbersOf, slotsOf, stringOf, stringsOf, tableBytes, total};
+ghost use Rattle.put.specs.Table.{InPools, TableFits};
 use entry::ABSENT;
 use entry::ABSENT_MARK;
 use entry::CANCELLED_BYTE;
@@ -111,7 +112,8 @@ pub fn slot_code(kind: u8, code: usize) -> usize
 // The slots of the first n numbers.
 pub fn put_numbers(b: &mut [u8], at: usize, kinds: &[u8], values: &[u32], n: usize)
     requires { ⌜ (at + shortWidth * n ≤ length (now b)) × ((n ≤ length (now kinds)) × (n ≤ length (now values))) ⌝ }
-    ensures { λ _. ⌜ now (b .exit) ≡ putAt (now (b .entry)) at (words numberWidth (map numberCode (numbersOf (now (kinds .entry)) (now (values .entry)) n))) ⌝ }
+    ensures { λ _. ⌜ now (b .exit) ≡ putAt (now (b .entry)) at
+        (words numberWidth (map numberCode (numbersOf (now (kinds .entry)) (now (values .entry)) n))) ⌝ }
 {
     let mut i = 0;
     while i < n {
@@ -143,7 +145,8 @@ pub fn bytes_in_table(kind: u8, size: usize) -> usize
 
 // How many bytes of the string table the first n strings take.
 pub fn table_size(kinds: &[u8], lengths: &[usize], n: usize) -> usize
-    requires { ⌜ (n ≤ length (now kinds)) × ((n ≤ length (now lengths)) × (total (now kinds) (now lengths) n < 2 ^ 64)) ⌝ }
+    requires { ⌜ (n ≤ length (now kinds)) × ((n ≤ length (now lengths))
+        × (total (now kinds) (now lengths) n < 2 ^ 64)) ⌝ }
     ensures { λ r. ⌜ r ≡ total (now (kinds .entry)) (now (lengths .entry)) n ⌝ }
 {
     let mut sum = 0;
@@ -157,8 +160,10 @@ pub fn table_size(kinds: &[u8], lengths: &[usize], n: usize) -> usize
 
 // The slots of the first n strings.
 pub fn put_slots(b: &mut [u8], at: usize, kinds: &[u8], lengths: &[usize], n: usize)
-    requires { ⌜ (at + shortWidth * n ≤ length (now b)) × ((n ≤ length (now kinds)) × ((n ≤ length (now lengths)) × (total (now kinds) (now lengths) n < 2 ^ 64))) ⌝ }
-    ensures { λ _. ⌜ now (b .exit) ≡ putAt (now (b .entry)) at (words offsetWidth (map offsetCode (slotsOf (now (kinds .entry)) (now (lengths .entry)) n))) ⌝ }
+    requires { ⌜ (at + shortWidth * n ≤ length (now b))
+        × ((n ≤ length (now kinds)) × ((n ≤ length (now lengths)) × (total (now kinds) (now lengths) n < 2 ^ 64))) ⌝ }
+    ensures { λ _. ⌜ now (b .exit) ≡ putAt (now (b .entry)) at
+        (words offsetWidth (map offsetCode (slotsOf (now (kinds .entry)) (now (lengths .entry)) n))) ⌝ }
 {
     let mut next = 0;
     let mut i = 0;
@@ -170,8 +175,8 @@ pub fn put_slots(b: &mut [u8], at: usize, kinds: &[u8], lengths: &[usize], n: us
     }
 }
 
-// A string's part of the table, a present one's content and its NUL; gives the place behind it. The content stands in one of two
-// lent slices; start counts through both.
+// A string's part of the table, a present one's content and its NUL; gives the place behind it. The content stands in
+// one of two lent slices; start counts through both.
 pub fn put_content(
     b: &mut [u8],
     at: usize,
@@ -181,8 +186,11 @@ pub fn put_content(
     first: &[u8],
     second: &[u8],
 ) -> usize
-    requires { ⌜ (at + tableBytes (stateOf kind size) ≤ length (now b)) × (kind ≡ 1 → InPools start size (now first) (now second)) ⌝ }
-    ensures { λ r. ⌜ (now (b .exit) ≡ putAt (now (b .entry)) at (stringTable (stringOf kind start size (now (first .entry) ++ now (second .entry)) ∷ []))) × (r ≡ at + tableBytes (stateOf kind size)) ⌝ }
+    requires { ⌜ (at + tableBytes (stateOf kind size) ≤ length (now b))
+        × (kind ≡ 1 → InPools start size (now first) (now second)) ⌝ }
+    ensures { λ r. ⌜ (now (b .exit) ≡ putAt (now (b .entry)) at
+        (stringTable (stringOf kind start size (now (first .entry) ++ now (second .entry)) ∷ [])))
+        × (r ≡ at + tableBytes (stateOf kind size)) ⌝ }
 {
     if kind != PRESENT {
         return at;
@@ -211,7 +219,9 @@ pub fn put_table(
     n: usize,
 )
     requires { ⌜ TableFits (now b) at (now kinds) (now starts) (now lengths) (now first) (now second) n ⌝ }
-    ensures { λ _. ⌜ now (b .exit) ≡ putAt (now (b .entry)) at (stringTable (stringsOf (now (kinds .entry)) (now (starts .entry)) (now (lengths .entry)) (now (first .entry) ++ now (second .entry)) n)) ⌝ }
+    ensures { λ _. ⌜ now (b .exit) ≡ putAt (now (b .entry)) at
+        (stringTable (stringsOf (now (kinds .entry)) (now (starts .entry)) (now (lengths .entry))
+        (now (first .entry) ++ now (second .entry)) n)) ⌝ }
 {
     let mut p = at;
     let mut i = 0;

@@ -1,6 +1,6 @@
-// Opens compiled entries (document 01: Compiled entry, order of reading): the header, then every slot of the file, whatever the
-// edition knows. Proved: `judge` and `open` answer every slice of bytes and every edition as `reading` and `opening` of
-// entry/specs say. Assumed: nothing.
+// Opens compiled entries (document 01: Compiled entry, order of reading): the header, then every slot of the file,
+// whatever the edition knows. Proved: `judge` and `open` answer every slice of bytes and every edition as `reading`
+// and `opening` of entry/specs say. Assumed: nothing.
 ghost use mathlib.Core.Path.{_≡_};
 ghost use Prim.Native.Nat.{_+_, _*_, _-_, _<_, _≤_};
 ghost use lib.ListN.{length};

@@ -14,7 +14,8 @@ use Rattle.io.specs.Counts.{Counts}
 use Rattle.io.specs.Digits.{Fewest}
 use Rattle.io.specs.Digits.{digits as lastDigits}
 use Rattle.base.specs.If.{if_then_else_}
-use Rattle.base.specs.Overwrite.{putAt, length-put, put-nil, put-store}
+use Rattle.base.specs.Overwrite.{putAt}
+use Rattle.base.proofs.OverwriteLaws.{length-put, put-nil, put-store}
 use Rattle.word.specs.Word.{word, bytes}
 use Rattle.edition.specs.declared.Kind.{Kind}
 use Rattle.edition.specs.declared.Kind.the-variants as Kinds
@@ -25,7 +26,8 @@ use Rattle.states.specs.Held.{IsPart}
 use Rattle.names.specs.Names.{ascii, parted, named, booleanNames, numberNames, stringNames, namesOf}
 use Rattle.names.specs.Naming.{packed, beforeNul, unpacked, naming}
 use Rattle.print.proofs.DigitLaws.{digits-one, digits-more}
-use Rattle.shown.specs.Puts.{Puts, Holds, counted, puts-most, puts-then}
+use Rattle.shown.specs.Puts.{Puts, Holds}
+use Rattle.shown.proofs.PutsLaws.{counted, puts-most, puts-then}
 use Rattle.ti_common.proofs.Laws.{digits-most}
 use Rattle.show_lines.specs.Lines.{nameOf, decimal}
 

@@ -1,5 +1,5 @@
--- The lines that `ti show` prints of a file: its names, each capability that is present or cancelled, and how many slots lie beyond the
--- first edition.
+-- The lines that `ti show` prints of a file: its names, each capability that is present or cancelled, and how many
+-- slots lie beyond the first edition.
 -- Assumes nothing.
 use mathlib.Core.List.{List, [], _∷_, _++_}
 use Prim.Native.Nat.{ℕ, _+_, _-_, _*_}
@@ -38,7 +38,8 @@ shownContent s = shown 33 s
 abbrev pub shownNames : List ℕ → List ℕ
 shownNames s = shown 32 s
 
--- a capability's line, by its name, what is written of a value, and its state: a cancelled one has `@` (64), an absent one no line
+-- a capability's line, by its name, what is written of a value, and its state: a cancelled one has `@` (64), an
+-- absent one no line
 abbrev pub lineOf : {A : Type 0} → List ℕ → (A → List ℕ) → Answer (State A) → List ℕ
 lineOf name value (refused n v) = []
 lineOf name value (gives absent) = []
@@ -69,7 +70,8 @@ namesLine f = ascii "names: " ++ (shownNames (bytesOf f (namesGiven (askingNames
 
 unfoldable pub countsLine : Beyond → List ℕ
 countsLine b =
-    ascii "beyond the edition: " ++ (decimal (b .booleans) ++ (ascii " booleans, " ++ (decimal (b .numbers) ++ (ascii " numbers, " ++ (decimal (b .strings) ++ (ascii " strings" ++ lineEnd))))))
+    ascii "beyond the edition: " ++ (decimal (b .booleans) ++ (ascii " booleans, "
+    ++ (decimal (b .numbers) ++ (ascii " numbers, " ++ (decimal (b .strings) ++ (ascii " strings" ++ lineEnd))))))
 
 -- a refused file has no such line
 abbrev pub beyondIn : Answer Opening → List ℕ
@@ -83,6 +85,7 @@ beyondLine f = beyondIn (opening firstEdition f)
 abbrev pub lineRoom : List ℕ → ℕ
 lineRoom f = 4 * length f + 128
 
--- the most bytes of a file that the program reads: one more than a file may have, so that a longer one is refused and never cut
+-- the most bytes of a file that the program reads: one more than a file may have, so that a longer one is refused and
+-- never cut
 abbrev pub fileRoom : ℕ
 fileRoom = fileMost + 1

@@ -1,16 +1,18 @@
-// The lines that show a compiled file: its names, each capability, the slots beyond the edition. Proved: each line is the one of
-// specs/Lines.antt. Assumed: nothing.
+// The lines that show a compiled file: its names, each capability, the slots beyond the edition. Proved: each line is
+// the one of specs/Lines.antt. Assumed: nothing.
 ghost use mathlib.Core.List.{_∷_, _++_};
 ghost use Prim.Native.Nat.{_+_, _*_, _≤_};
 ghost use lib.ListN.{length};
 ghost use Rattle.names.specs.Naming.{unpacked};
 ghost use Rattle.shown.specs.Puts.{Puts, Holds};
 ghost use Rattle.shown.specs.Shown.{shown};
-ghost use Rattle.show_lines.specs.Lines.{nameOf, decimal, lineEnd, lineRoom, countsLine, booleanLine, numberLine, stringLine, capabilityLine, namesLine, beyondLine};
+ghost use Rattle.show_lines.specs.Lines.{nameOf, decimal, lineEnd, lineRoom, countsLine, booleanLine};
+ghost use Rattle.show_lines.specs.Lines.{numberLine, stringLine, capabilityLine, namesLine, beyondLine};
 use edition::Kind;
 use edition::Place;
 use entry::Beyond;
 use entry::BooleanState;
+use entry::Names;
 use entry::NumberState;
 use entry::Opened;
 use entry::StringState;
@@ -64,7 +66,8 @@ fn put_name(out: &mut [u8], kind: Kind, place: Place) -> usize
 // Puts the name of a capability and what stands behind it.
 fn put_named(out: &mut [u8], kind: Kind, place: Place, behind: &[u8]) -> usize
     requires { ⌜ 8 + length (now behind) ≤ length (now out) ⌝ }
-    ensures { λ r. ⌜ Puts (now (out .entry)) (now (out .exit)) 0 (nameOf kind place ++ now (behind .entry)) (8 + length (now (behind .entry))) r ⌝ }
+    ensures { λ r. ⌜ Puts (now (out .entry)) (now (out .exit)) 0 (nameOf kind place ++ now (behind .entry))
+        (8 + length (now (behind .entry))) r ⌝ }
 {
     let end = put_name(out, kind, place);
     put_text(out, end, behind)
@@ -73,7 +76,8 @@ fn put_named(out: &mut [u8], kind: Kind, place: Place, behind: &[u8]) -> usize
 // Puts a number and what stands behind it.
 fn put_number(out: &mut [u8], at: usize, n: u64, behind: &[u8]) -> usize
     requires { ⌜ at + (20 + length (now behind)) ≤ length (now out) ⌝ }
-    ensures { λ r. ⌜ Puts (now (out .entry)) (now (out .exit)) at (decimal n ++ now (behind .entry)) (20 + length (now (behind .entry))) r ⌝ }
+    ensures { λ r. ⌜ Puts (now (out .entry)) (now (out .exit)) at (decimal n ++ now (behind .entry))
+        (20 + length (now (behind .entry))) r ⌝ }
 {
     let mut digits = [0u8; 20];
     let k = io::decimal(n, &mut digits);
@@ -84,7 +88,8 @@ fn put_number(out: &mut [u8], at: usize, n: u64, behind: &[u8]) -> usize
 // Puts bytes as they are shown, and the line's end.
 fn put_shown(out: &mut [u8], at: usize, least: u8, bytes: &[u8]) -> usize
     requires { ⌜ at + (4 * length (now bytes) + 1) ≤ length (now out) ⌝ }
-    ensures { λ r. ⌜ Puts (now (out .entry)) (now (out .exit)) at (shown least (now (bytes .entry)) ++ lineEnd) (4 * length (now (bytes .entry)) + 1) r ⌝ }
+    ensures { λ r. ⌜ Puts (now (out .entry)) (now (out .exit)) at (shown least (now (bytes .entry)) ++ lineEnd)
+        (4 * length (now (bytes .entry)) + 1) r ⌝ }
 {
     let end = shown::show(out, at, least, bytes);
     put_text(out, end, b"\n")
@@ -93,7 +98,8 @@ fn put_shown(out: &mut [u8], at: usize, least: u8, bytes: &[u8]) -> usize
 // Puts the line of a number's value.
 fn put_value(out: &mut [u8], place: Place, n: u32) -> usize
     requires { ⌜ 30 ≤ length (now out) ⌝ }
-    ensures { λ r. ⌜ Puts (now (out .entry)) (now (out .exit)) 0 (nameOf Kind.Number place ++ (35 ∷ (decimal n ++ lineEnd))) 30 r ⌝ }
+    ensures { λ r. ⌜ Puts (now (out .entry)) (now (out .exit)) 0
+        (nameOf Kind.Number place ++ (35 ∷ (decimal n ++ lineEnd))) 30 r ⌝ }
 {
     let at = put_named(out, Kind::Number, place, b"#");
     put_number(out, at, n as u64, b"\n")
@@ -102,7 +108,9 @@ fn put_value(out: &mut [u8], place: Place, n: u32) -> usize
 // Puts the line of a string's content.
 fn put_content(out: &mut [u8], place: Place, content: &[u8]) -> usize
     requires { ⌜ 9 + (4 * length (now content) + 1) ≤ length (now out) ⌝ }
-    ensures { λ r. ⌜ Puts (now (out .entry)) (now (out .exit)) 0 (nameOf Kind.String place ++ (61 ∷ (shown 33 (now (content .entry)) ++ lineEnd))) (9 + (4 * length (now (content .entry)) + 1)) r ⌝ }
+    ensures { λ r. ⌜ Puts (now (out .entry)) (now (out .exit)) 0
+        (nameOf Kind.String place ++ (61 ∷ (shown 33 (now (content .entry)) ++ lineEnd)))
+        (9 + (4 * length (now (content .entry)) + 1)) r ⌝ }
 {
     let at = put_named(out, Kind::String, place, b"=");
     put_shown(out, at, CONTENT_LEAST, content)
@@ -151,8 +159,8 @@ fn string_line(file: &[u8], place: Place, out: &mut [u8]) -> usize
     ensures { λ r. ⌜ Holds r (now (out .exit)) (stringLine (now (file .entry)) place) ⌝ }
 {
     match states::string(file, FIRST_EDITION, place) {
-        StringState::Present(_) => {
-            let content = states::string_part(file, FIRST_EDITION, place);
+        StringState::Present(p) => {
+            let content = states::part(file, p);
             put_content(out, place, content)
         }
         StringState::Cancelled => put_named(out, Kind::String, place, b"@\n"),
@@ -181,8 +189,13 @@ pub fn names_line(file: &[u8], out: &mut [u8]) -> usize
     ensures { λ r. ⌜ Holds r (now (out .exit)) (namesLine (now (file .entry))) ⌝ }
 {
     let at = put_text(out, 0, b"names: ");
-    let names = states::names_part(file, FIRST_EDITION);
-    put_shown(out, at, NAMES_LEAST, names)
+    match states::names(file, FIRST_EDITION) {
+        Names::At(p) => {
+            let names = states::part(file, p);
+            put_shown(out, at, NAMES_LEAST, names)
+        }
+        Names::Refused => put_text(out, at, b"\n"),
+    }
 }
 
 // The line of the slots beyond the first edition.

@@ -9,8 +9,10 @@ use native.Mathlib.Numerals.{add-one}
 use lib.ListN.{length, getD, set, take}
 use lib.Seq.{take-suc, take-length}
 use Rattle.base.specs.If.{if_then_else_}
-use Rattle.base.specs.Overwrite.{putAt, put-set}
-use Rattle.shown.specs.Puts.{Puts, puts-none, puts-then}
+use Rattle.base.specs.Overwrite.{putAt}
+use Rattle.base.proofs.OverwriteLaws.{put-set}
+use Rattle.shown.specs.Puts.{Puts}
+use Rattle.shown.proofs.PutsLaws.{puts-none, puts-then}
 use Rattle.shown.specs.Shown.{isPlain, octal, shownByte, shown}
 
 most-by : (c : ℕ) (t : Bool) → length (if t then c ∷ [] else octal c) ≤ 4

@@ -1,5 +1,5 @@
-// Bytes as people read them: those that stand for themselves, and all others by a backslash and three octal digits. Proved: `show` puts what
-// specs/Shown.antt says. Assumed: nothing.
+// Bytes as people read them: those that stand for themselves, and all others by a backslash and three octal digits.
+// Proved: `show` puts what specs/Shown.antt says. Assumed: nothing.
 ghost use mathlib.Core.Path.{_≡_};
 ghost use Prim.Native.Nat.{_+_, _*_, _<_, _≤_};
 ghost use lib.ListN.{length};
@@ -50,7 +50,8 @@ fn put_shown(out: &mut [u8], at: usize, least: u8, c: u8) -> usize
 // Puts bytes as they are shown, and answers the place behind them.
 pub fn show(out: &mut [u8], at: usize, least: u8, bytes: &[u8]) -> usize
     requires { ⌜ at + 4 * length (now bytes) ≤ length (now out) ⌝ }
-    ensures { λ r. ⌜ Puts (now (out .entry)) (now (out .exit)) at (shown least (now (bytes .entry))) (4 * length (now (bytes .entry))) r ⌝ }
+    ensures { λ r. ⌜ Puts (now (out .entry)) (now (out .exit)) at (shown least (now (bytes .entry)))
+        (4 * length (now (bytes .entry))) r ⌝ }
 {
     let mut end = at;
     let mut i = 0;

@@ -1,5 +1,5 @@
-// 32-bit signed arithmetic as expansion has it (document 01: Expansion). Proved: each function is its definition of specs/Signed.antt
-// for all values. Assumed: nothing.
+// 32-bit signed arithmetic as expansion has it (document 01: Expansion). Proved: each function is its definition of
+// specs/Signed.antt for all values. Assumed: nothing.
 ghost use mathlib.Core.Path.{_≡_};
 ghost use Prim.Native.Nat.{_*_, _%_, _^_};
 ghost use mir.Syntax.{w32};

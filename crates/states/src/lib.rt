@@ -1,9 +1,10 @@
-// Asks files for names and states, place by place (document 01: Compiled entry). Proved: each call of this file answers every slice
-// of bytes, every edition and every place as the definition of entry/specs that its contract names. Assumed: nothing.
+// Asks files for names and states, place by place (document 01: Compiled entry). Proved: each call of this file
+// answers every slice of bytes, every edition and every place as the definition of entry/specs that its contract
+// names. Assumed: nothing.
 ghost use mathlib.Core.Path.{_≡_};
 ghost use Prim.Native.Nat.{_+_, _≤_};
 ghost use lib.ListN.{length};
-ghost use Rattle.entry.specs.Asking.{askingNames, askingBoolean, askingNumber, askingString, partGiven, namesGiven};
+ghost use Rattle.entry.specs.Asking.{askingNames, askingBoolean, askingNumber, askingString};
 ghost use Rattle.entry.specs.Says.{saysNames, saysBoolean, saysNumber, saysString};
 ghost use Rattle.states.specs.Held.{IsPart};
 use edition::Edition;
@@ -57,32 +58,4 @@ pub fn part(file: &[u8], p: Part) -> &[u8]
     let start = p.start;
     let end = p.start + p.length;
     &file[start..end]
-}
-
-// The empty part at a file's start.
-pub const NO_PART: Part = Part {
-    start: 0,
-    length: 0,
-};
-
-// The content of the string at a place, as that part of the file; the empty part at the file's start where no content is given.
-pub fn string_part(file: &[u8], edition: Edition, place: Place) -> &[u8]
-    ensures { λ r. ⌜ IsPart (file .entry) r (partGiven (askingString edition (now (file .entry)) place)) ⌝ }
-{
-    match string(file, edition, place) {
-        StringState::Present(p) => part(file, p),
-        StringState::Absent => part(file, NO_PART),
-        StringState::Cancelled => part(file, NO_PART),
-        StringState::Refused => part(file, NO_PART),
-    }
-}
-
-// The file's names, as that part of the file; the empty part at the file's start where opening would refuse.
-pub fn names_part(file: &[u8], edition: Edition) -> &[u8]
-    ensures { λ r. ⌜ IsPart (file .entry) r (namesGiven (askingNames edition (now (file .entry)))) ⌝ }
-{
-    match names(file, edition) {
-        Names::At(p) => part(file, p),
-        Names::Refused => part(file, NO_PART),
-    }
 }

@@ -1,28 +1,55 @@
--- What opening gives beyond the edition, and what expanding at a place gives.
+-- What expanding at a place gives, by the cases of the code.
 -- Assumes nothing.
-use mathlib.Core.Path.{_≡_, refl, ap}
-use mathlib.Core.Bool.{true}
+use mathlib.Core.Path.{_≡_, refl, sym, ap, _∙_}
 use mathlib.Core.List.{List, []}
-use Prim.Native.Nat.{ℕ}
+use Prim.Native.Nat.{ℕ, _≤_, _<_}
+use lib.Dec.{leb}
 use lib.IntN.{ℤ}
+use borrow.Author.Tests.{le-leb, lt-leb}
 use Rattle.edition.specs.declared.Edition.{Edition}
 use Rattle.edition.specs.declared.Place.{Place}
-use Rattle.base.specs.Answer.{refused, gives, isGiven}
+use Rattle.base.specs.Answer.{Answer, refused, gives, mapAnswer}
 use Rattle.entry.specs.Asking.{askingString}
+use Rattle.entry.specs.Reading.{bytesOf}
 use Rattle.entry.specs.declared.Part.{Part}
-use Rattle.entry.specs.State.{State}
-use Rattle.expansion.specs.declared.Expansion.{Expansion}
+use Rattle.entry.specs.State.{State, absent, cancelled, present, mapState}
+use Rattle.expand_output.specs.Answers.{ExpandedAs}
 use Rattle.expansion.specs.declared.Expansion.the-variants as E
-use Rattle.terminfo.specs.Lent.{WrittenAs, expandingGiven, expandingAt}
+use Rattle.expansion.specs.declared.Expanded.{Expanded}
+use Rattle.expansion.specs.Expanding.{Expanding, expanding, counted, outputAfter}
+use Rattle.terminfo.specs.declared.ExpandedString.{ExpandedString}
+use Rattle.terminfo.specs.declared.ExpandedString.the-variants as X
+use Rattle.terminfo.specs.Lent.{WrittenAs, zeroLasting, expandingAsked, expandingAt, stateOutput}
 
--- ---- expanding at a place
+-- a present string's expansion counts and writes as the expansion does
+present-counted : (a : Answer Expanding) → mapAnswer present (mapAnswer counted a) ≡ mapAnswer (mapState counted) (mapAnswer present a)
+present-counted (refused n v) = refl
+present-counted (gives x) = refl
 
-module _ (e : Edition) (f : List ℕ) (p : Place) (arguments : List ℤ) (at : ℕ) (b : List ℕ) where
-  pub written-refused : (size : ℕ) → askingString e f p ≡ refused 17 [] → WrittenAs (expandingAt e f p arguments size at) b at b E.Place
+present-output : (b : List ℕ) (at : ℕ) (a : Answer Expanding) → outputAfter b at a ≡ stateOutput b at (mapAnswer present a)
+present-output b at (refused n v) = refl
+present-output b at (gives x) = refl
+
+module _ (e : Edition) (f : List ℕ) (p : Place) (arguments : List ℤ) (size at : ℕ) (b : List ℕ) where
+  -- a place above the buffer's length
+  pub written-above : size < at → WrittenAs (expandingAt e f p arguments size at) b at b (X.Expansion E.Place)
   unfolding expandingAt
-  written-refused size h = rw (h) (record { answer = refl; output = refl })
+  written-above h = rw (lt-leb at size h) (record { answer = refl; output = refl })
 
-  pub written-given : (size : ℕ) (b′ : List ℕ) (r : Expansion) (x : State Part) → askingString e f p ≡ gives x → WrittenAs (expandingGiven e f p arguments size at) b at b′ r
-      → WrittenAs (expandingAt e f p arguments size at) b at b′ r
+  -- what the file says of the string, at a place in the buffer
+  pub written-asked : (b′ : List ℕ) (r : ExpandedString) (a : Answer (State Part)) → at ≤ size → a ≡ askingString e f p
+      → WrittenAs (expandingAsked f arguments size at a) b at b′ r → WrittenAs (expandingAt e f p arguments size at) b at b′ r
   unfolding expandingAt
-  written-given size b′ r x h w = let g : isGiven (askingString e f p) ≡ true = ap isGiven h in rw (g) w
+  written-asked b′ r a h q w = rw (le-leb at size h, ← q) w
+
+  pub written-present : (b′ s : List ℕ) (r : Expanded) (v : List ℤ) (q : Part) → at ≤ size → gives (present q) ≡ askingString e f p
+      → s ≡ bytesOf f q → v ≡ zeroLasting → ExpandedAs (expanding s arguments v size at) v b at b′ r
+      → WrittenAs (expandingAt e f p arguments size at) b at b′ (X.Expansion (r .answer))
+  written-present b′ s r v q l g h z w =
+      let a = expanding s arguments v size at in
+      let i : a ≡ expanding (bytesOf f q) arguments zeroLasting size at = λ k. expanding (h k) arguments (z k) size at in
+      written-asked b′ _ _ l g
+      (record {
+        answer = ap (mapAnswer present) (w .answer) ∙ present-counted a ∙ ap (λ (x : Answer Expanding). mapAnswer (mapState counted) (mapAnswer present x)) i;
+        output = w .output ∙ present-output b at a ∙ ap (λ (x : Answer Expanding). stateOutput b at (mapAnswer present x)) i;
+      })

@@ -1,32 +1,59 @@
 -- What expanding a file's string gives, and what a call that does so promises (document 01: Expansion).
 -- Assumes nothing.
 use mathlib.Core.Path.{_≡_}
+use mathlib.Core.Bool.{not}
 use mathlib.Core.List.{List, []}
 use Prim.Native.Nat.{ℕ}
+use lib.Dec.{leb}
 use lib.IntN.{ℤ, pos}
 use lib.ListN.{replicate}
 use Rattle.edition.specs.declared.Edition.{Edition}
 use Rattle.edition.specs.declared.Place.{Place}
 use Rattle.base.specs.If.{if_then_else_}
-use Rattle.base.specs.Answer.{Answer, refused, isGiven, mapAnswer}
+use Rattle.base.specs.Answer.{Answer, refused, gives, mapAnswer}
+use Rattle.base.specs.Overwrite.{putAt}
+use Rattle.entry.specs.declared.Part.{Part}
+use Rattle.entry.specs.State.{State, absent, cancelled, present, mapState}
 use Rattle.entry.specs.Reading.{bytesOf}
-use Rattle.entry.specs.Asking.{askingString, partGiven}
-use Rattle.expansion.specs.declared.Expansion.{Expansion}
-use Rattle.expansion.specs.Expanding.{Expanding, expanding, counted, saysExpansion, outputAfter}
-
--- a call that comes to a, over a buffer with bytes b before and b′ after, answers r; a refusal leaves the buffer
-pub record WrittenAs (a : Answer Expanding) (b : List ℕ) (at : ℕ) (b′ : List ℕ) (r : Expansion) : Type 0 where
-  pub answer : saysExpansion r ≡ mapAnswer counted a
-  pub output : b′ ≡ outputAfter b at a
+use Rattle.entry.specs.Asking.{askingString}
+use Rattle.expansion.specs.Expanding.{Expanding, expanding, Counts, counted, saysExpansion}
+use Rattle.terminfo.specs.declared.ExpandedString.{ExpandedString}
+use Rattle.terminfo.specs.declared.ExpandedString.the-variants as X
 
 -- the variables A to Z, all 0
 abbrev pub zeroLasting : List ℤ
 zeroLasting = replicate 26 (pos 0)
 
--- what expanding the content at place p of file f gives, the variables all 0: as asking gives it, no bytes where none is given
-abbrev pub expandingGiven : Edition → List ℕ → Place → List ℤ → ℕ → ℕ → Answer Expanding
-expandingGiven e f p arguments = expanding (bytesOf f (partGiven (askingString e f p))) arguments zeroLasting
+-- what expanding gives, the variables all 0, by what asking file f for the string gave: only a present one is expanded
+abbrev pub expandingAsked : List ℕ → List ℤ → ℕ → ℕ → Answer (State Part) → Answer (State Expanding)
+expandingAsked f arguments size at (refused n v) = refused n v
+expandingAsked f arguments size at (gives absent) = gives absent
+expandingAsked f arguments size at (gives cancelled) = gives cancelled
+expandingAsked f arguments size at (gives (present q)) =
+    mapAnswer present (expanding (bytesOf f q) arguments zeroLasting size at)
 
--- the same of a place that can be asked; else "place beyond the edition", "entry not from opening": 17
-unfoldable pub expandingAt : Edition → List ℕ → Place → List ℤ → ℕ → ℕ → Answer Expanding
-expandingAt e f p arguments size at = if isGiven (askingString e f p) then expandingGiven e f p arguments size at else refused 17 []
+-- "place beyond the edition, or above the buffer's length; entry not from opening": 17; else what the string at place
+-- p of file f gives
+unfoldable pub expandingAt : Edition → List ℕ → Place → List ℤ → ℕ → ℕ → Answer (State Expanding)
+expandingAt e f p arguments size at =
+    if not (leb at size) then refused 17 []
+    else expandingAsked f arguments size at (askingString e f p)
+
+-- "bytes before it and after the output stay"; a refusal, an absent and a cancelled string change nothing
+abbrev pub stateOutput : List ℕ → ℕ → Answer (State Expanding) → List ℕ
+stateOutput b at (refused n v) = b
+stateOutput b at (gives absent) = b
+stateOutput b at (gives cancelled) = b
+stateOutput b at (gives (present x)) = putAt b at (x .output)
+
+-- what the code's answer says: the string's state, a present one with its output's length and the steps
+abbrev pub saysExpandedString : ExpandedString → Answer (State Counts)
+saysExpandedString X.Absent = gives absent
+saysExpandedString X.Cancelled = gives cancelled
+saysExpandedString (X.Expansion r) = mapAnswer present (saysExpansion r)
+
+-- a call that comes to a, over a buffer with bytes b before and b′ after, answers r
+pub record WrittenAs (a : Answer (State Expanding)) (b : List ℕ) (at : ℕ) (b′ : List ℕ) (r : ExpandedString) : Type 0
+  where
+    pub answer : saysExpandedString r ≡ mapAnswer (mapState counted) a
+    pub output : b′ ≡ stateOutput b at a

@@ -1,16 +1,17 @@
-// The calls for a Rattle program: an entry that keeps hold of its file, and expansion with lasting variables that are lent (document 01:
-// Compiled entry; Expansion). Each call over such a struct passes its slice and numbers on to a call of `slices`. Proved: each answers
-// every value as the definition that its contract names. Assumed: nothing.
+// The calls for a Rattle program: an entry that keeps hold of its file, and expansion with lasting variables that are
+// lent (document 01: Compiled entry; Expansion). Each call over such a struct passes its slice and numbers on to
+// `entry_numbers`. Proved: each answers every value as the definition that its contract names. Assumed: nothing.
 ghost use mathlib.Core.Path.{_≡_};
 ghost use lib.ListN.{length};
-ghost use Rattle.entry.specs.Asking.{askingString, partGiven, namesGiven};
+ghost use Rattle.entry.specs.Asking.{askingString};
 ghost use Rattle.entry.specs.Says.{saysNames, saysBoolean, saysNumber, saysString};
-ghost use Rattle.states.specs.Held.{IsPart};
 ghost use Rattle.expansion.specs.Expanding.{expanding};
 ghost use Rattle.expand_output.specs.Answers.{LentAs};
 ghost use Rattle.terminfo.specs.Entries.{entryOf};
-ghost use Rattle.entry_numbers.specs.Entries.{entryRefusal, entryNames, entryBoolean, entryNumber, entryString, entryBeyond, saysBeyond};
-ghost use Rattle.terminfo.specs.Lent.{zeroLasting, expandingGiven, expandingAt, WrittenAs};
+ghost use Rattle.entry_numbers.specs.Entries.{entryRefusal, entryNames, entryBoolean, entryNumber, entryString};
+ghost use Rattle.entry_numbers.specs.Entries.{entryBeyond, saysBeyond};
+ghost use Rattle.terminfo.specs.Lent.{zeroLasting, expandingAt, WrittenAs};
+ghost use Rattle.terminfo.specs.Parts.{NamesAs, StringAs};
 use edition::Edition;
 use edition::Place;
 use entry::BooleanState;
@@ -26,6 +27,18 @@ use expansion::Lasting;
 pub struct Entry<'a> {
     file: &'a [u8],
     numbers: EntryNumbers,
+}
+
+// The names, and their bytes in the caller's.
+pub struct NamesPart<'a> {
+    pub names: Names,
+    pub bytes: &'a [u8],
+}
+
+// A string's state, and its content's bytes in the caller's.
+pub struct StringPart<'a> {
+    pub state: StringState,
+    pub bytes: &'a [u8],
 }
 
 // Opens a file in an edition.
@@ -50,11 +63,13 @@ pub fn names<'a>(e: Entry<'a>) -> Names
     entry_numbers::names_in(e.file, e.numbers)
 }
 
-// The names as that part of the caller's bytes; the empty part at the file's start where they are refused (17). Names are never empty.
-pub fn names_part<'a>(e: Entry<'a>) -> &'a [u8]
-    ensures { λ r. ⌜ IsPart (e .entry .file) r (namesGiven (entryNames (now (e .entry .file)) (e .entry .numbers))) ⌝ }
+// The names, and their bytes as that part of the caller's; the empty part at the file's start where they are refused.
+pub fn names_part<'a>(e: Entry<'a>) -> NamesPart<'a>
+    ensures { λ r. ⌜ NamesAs (e .entry .file) (entryNames (now (e .entry .file)) (e .entry .numbers)) r ⌝ }
 {
-    entry_numbers::names_part_in(e.file, e.numbers)
+    let names = entry_numbers::names_in(e.file, e.numbers);
+    let bytes = entry_numbers::names_bytes(e.file, names);
+    NamesPart { names, bytes }
 }
 
 // The state of the boolean at a place.
@@ -78,12 +93,14 @@ pub fn string<'a>(e: Entry<'a>, place: Place) -> StringState
     entry_numbers::string_in(e.file, e.numbers, place)
 }
 
-// The content of the string at a place as that part of the caller's bytes; the empty part at the file's start where no content is given.
-// An empty part does not tell a present empty string from an absent or cancelled one or from 17: `string` does.
-pub fn string_part<'a>(e: Entry<'a>, place: Place) -> &'a [u8]
-    ensures { λ r. ⌜ IsPart (e .entry .file) r (partGiven (entryString (now (e .entry .file)) (e .entry .numbers) place)) ⌝ }
+// The state of the string at a place, and its content as that part of the caller's bytes; the empty part at the
+// file's start where there is no content.
+pub fn string_part<'a>(e: Entry<'a>, place: Place) -> StringPart<'a>
+    ensures { λ r. ⌜ StringAs (e .entry .file) (entryString (now (e .entry .file)) (e .entry .numbers) place) r ⌝ }
 {
-    entry_numbers::string_part_in(e.file, e.numbers, place)
+    let state = entry_numbers::string_in(e.file, e.numbers, place);
+    let bytes = entry_numbers::string_bytes(e.file, state);
+    StringPart { state, bytes }
 }
 
 // How many slots of the file lie beyond the edition, in each list.
@@ -93,16 +110,15 @@ pub fn beyond<'a>(e: Entry<'a>) -> BeyondEdition
     entry_numbers::beyond_in(e.file, e.numbers)
 }
 
-// Opens a file and gives the content of the string at a place. Its parameters are plain: a caller's proof is made by the check.
-// An empty part tells as little as that of `string_part`: `states::string` tells the state.
-pub fn open_string<'a>(file: &'a [u8], edition: Edition, place: Place) -> &'a [u8]
-    ensures { λ r. ⌜ IsPart (file .entry) r (partGiven (askingString edition (now (file .entry)) place)) ⌝ }
+// Opens a file and gives the string at a place, as `string_part` does.
+pub fn open_string<'a>(file: &'a [u8], edition: Edition, place: Place) -> StringPart<'a>
+    ensures { λ r. ⌜ StringAs (file .entry) (askingString edition (now (file .entry)) place) r ⌝ }
 {
     string_part(open(file, edition), place)
 }
 
-// Expands a string into the free part of the buffer from place at on. The lasting variables are lent and change in place; on a refusal they
-// and the buffer are as they were.
+// Expands a string into the free part of the buffer from place at on. The lasting variables are lent and change in
+// place; on a refusal they and the buffer are as they were.
 pub fn expand(
     string: &[u8],
     arguments: [i32; 9],
@@ -110,7 +126,9 @@ pub fn expand(
     out: &mut [u8],
     at: usize,
 ) -> Expansion
-    ensures { λ r. ⌜ LentAs (expanding (now (string .entry)) arguments (now (lasting .entry) .values) (length (now (out .entry))) at) (now (lasting .entry) .values) (now (lasting .exit) .values) (now (out .entry)) at (now (out .exit)) r ⌝ }
+    ensures { λ r. ⌜ LentAs (expanding (now (string .entry)) arguments (now (lasting .entry) .values)
+        (length (now (out .entry))) at) (now (lasting .entry) .values) (now (lasting .exit) .values)
+        (now (out .entry)) at (now (out .exit)) r ⌝ }
 {
     let e = expand::expand(string, arguments, *lasting, out, at);
     *lasting = e.lasting;
@@ -124,26 +142,16 @@ pub fn zero_lasting() -> Lasting
     Lasting { values: [0; 26] }
 }
 
-// Opens a file and expands the content of the string at a place; no bytes where none is given.
-fn expand_given(
-    file: &[u8],
-    edition: Edition,
-    place: Place,
-    arguments: [i32; 9],
-    out: &mut [u8],
-    at: usize,
-) -> Expansion
-    ensures { λ r. ⌜ WrittenAs (expandingGiven edition (now (file .entry)) place arguments (length (now (out .entry))) at) (now (out .entry)) at (now (out .exit)) r ⌝ }
-{
-    let entry = open(file, edition);
-    let string = string_part(entry, place);
-    let mut lasting = zero_lasting();
-    expand(string, arguments, &mut lasting, out, at)
+// What expanding a file's string answers.
+pub enum ExpandedString {
+    Absent,
+    Cancelled,
+    // of a present string; 17 also where opening would refuse, or the place is beyond the edition
+    Expansion(Expansion),
 }
 
-// Opens a file and expands the string at a place, with lasting variables that are 0 at first and are not given back. Its parameters are plain:
-// a caller's proof is made by the check. A place that can't be asked, or a file that can't be opened, is 17; an absent or a cancelled string
-// expands to no bytes.
+// Opens a file and expands the string at a place, with lasting variables that are 0 at first and are not given back.
+// Its parameters are plain: a caller's proof is made by the check.
 pub fn open_expand(
     file: &[u8],
     edition: Edition,
@@ -151,13 +159,22 @@ pub fn open_expand(
     arguments: [i32; 9],
     out: &mut [u8],
     at: usize,
-) -> Expansion
-    ensures { λ r. ⌜ WrittenAs (expandingAt edition (now (file .entry)) place arguments (length (now (out .entry))) at) (now (out .entry)) at (now (out .exit)) r ⌝ }
+) -> ExpandedString
+    ensures { λ r. ⌜ WrittenAs (expandingAt edition (now (file .entry)) place arguments (length (now (out .entry)))
+        at) (now (out .entry)) at (now (out .exit)) r ⌝ }
 {
+    if out.len() < at {
+        return ExpandedString::Expansion(Expansion::Place);
+    }
     match states::string(file, edition, place) {
-        StringState::Refused => Expansion::Place,
-        StringState::Absent => expand_given(file, edition, place, arguments, out, at),
-        StringState::Cancelled => expand_given(file, edition, place, arguments, out, at),
-        StringState::Present(_) => expand_given(file, edition, place, arguments, out, at),
+        StringState::Present(p) => {
+            let string = states::part(file, p);
+            let e = expand::expand(string, arguments, zero_lasting(), out, at);
+            let answer = e.answer;
+            ExpandedString::Expansion(answer)
+        }
+        StringState::Absent => ExpandedString::Absent,
+        StringState::Cancelled => ExpandedString::Cancelled,
+        StringState::Refused => ExpandedString::Expansion(Expansion::Place),
     }
 }

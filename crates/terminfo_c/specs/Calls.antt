@@ -1,4 +1,5 @@
--- The calls for C: the number that each answers, and what lent arrays hold afterwards (include/terminfo_c.h says the same in words).
+-- The calls for C: the number that each answers, and what lent arrays hold afterwards (include/terminfo_c.h says the
+-- same in words).
 -- Assumes nothing.
 use mathlib.Core.Path.{_≡_}
 use mathlib.Core.List.{List, []}
@@ -50,7 +51,8 @@ stringNumber b n s f i = numbered stringCode (askingString (edition b n s) f (pl
 -- eight places asked for in one call: what it stores; 17 where opening would refuse
 unfoldable pub asking8 : Edition → List ℕ → List ℕ → List ℕ → Answer (List ℕ)
 asking8 e f kinds places =
-    if isGiven (opening e f) then gives (tabulate (λ i. askedCode e f (getD kinds i 0) (getD places i 0)) 8) else refused 17 []
+    if isGiven (opening e f) then gives (tabulate (λ i. askedCode e f (getD kinds i 0) (getD places i 0)) 8)
+    else refused 17 []
 
 -- a name asked for by the number of its kind
 unfoldable pub namingBy : ℕ → ℕ → Answer ℕ
@@ -76,7 +78,8 @@ pub record CompiledNumber (t : List ℕ) (before after : List ℕ) (r : ℕ) : T
   pub buffer : after ≡ bufferAfter before (compiling firstEdition t (length before))
 
 -- the number, the lasting variables and the buffer that expanding leaves
-pub record ExpandedNumber (a : Answer Expanding) (before after : List ℤ) (b : List ℕ) (at : ℕ) (b′ : List ℕ) (r : ℕ) : Type 0 where
+pub record ExpandedNumber (a : Answer Expanding) (before after : List ℤ) (b : List ℕ) (at : ℕ) (b′ : List ℕ) (r : ℕ) :
+    Type 0 where
   pub number : r ≡ expansionNumber (mapAnswer counted a)
   pub lasting : after ≡ lastingAfter before a
   pub output : b′ ≡ outputAfter b at a

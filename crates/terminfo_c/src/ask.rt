@@ -35,7 +35,8 @@ pub fn asked_numbers(
     places: &[usize; 8],
 ) -> [u64; 8]
     requires { ⌜ saysOpened o ≡ opening e (now file) ⌝ }
-    ensures { λ r. ⌜ r ≡ tabulate (λ i. askedCode e (now (file .entry)) (getD (now (kinds .entry)) i 0) (getD (now (places .entry)) i 0)) 8 ⌝ }
+    ensures { λ r. ⌜ r ≡ tabulate (λ i. askedCode e (now (file .entry)) (getD (now (kinds .entry)) i 0)
+        (getD (now (places .entry)) i 0)) 8 ⌝ }
 {
     let mut answers = [0u64; 8];
     let mut i = 0;

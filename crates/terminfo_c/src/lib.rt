@@ -1,6 +1,6 @@
-// The calls for C and Rust: numbers and slices only (include/terminfo_c.h). Each answers one 64-bit number: the refusal's number in the
-// top byte, 0 for success, and below it what the refusal or the call gives. Proved: each says as much as the call that it passes on.
-// Assumed: nothing.
+// The calls for C and Rust: numbers and slices only (include/terminfo_c.h). Each answers one 64-bit number: the
+// refusal's number in the top byte, 0 for success, and below it what the refusal or the call gives. Proved: each says
+// as much as the call that it passes on. Assumed: nothing.
 ghost use mathlib.Core.Path.{_≡_};
 ghost use lib.ListN.{length};
 ghost use Rattle.base.specs.Answer.{mapAnswer};
@@ -8,7 +8,9 @@ ghost use Rattle.entry.specs.Asking.{opening, askingNames};
 ghost use Rattle.entry.specs.Handed.{handed};
 ghost use Rattle.expansion.specs.Expanding.{expanding};
 ghost use Rattle.c_numbers.specs.Numbers.{numbered, none, partCode, openingArray};
-ghost use Rattle.terminfo_c.specs.Calls.{edition, arrayAfter, booleanNumber, numberNumber, stringNumber, asking8, namingBy, WrittenNumber, MergedNumber, CompiledNumber, ExpandedNumber};
+ghost use Rattle.terminfo_c.specs.Calls.{edition, arrayAfter, booleanNumber, numberNumber, stringNumber};
+ghost use Rattle.terminfo_c.specs.Calls.{asking8, namingBy, WrittenNumber, MergedNumber, CompiledNumber};
+ghost use Rattle.terminfo_c.specs.Calls.{ExpandedNumber};
 use edition::Edition;
 use edition::Kind;
 use edition::Place;
@@ -25,7 +27,9 @@ pub extern "C" fn terminfo_open(
     strings: usize,
     tables: &mut [u64; 10],
 ) -> u64
-    ensures { λ r. ⌜ (r ≡ numbered none (opening (edition booleans numbers strings) (now (file .entry)))) × (now (tables .exit) ≡ arrayAfter (now (tables .entry)) (mapAnswer openingArray (opening (edition booleans numbers strings) (now (file .entry))))) ⌝ }
+    ensures { λ r. ⌜ (r ≡ numbered none (opening (edition booleans numbers strings) (now (file .entry))))
+        × (now (tables .exit) ≡ arrayAfter (now (tables .entry))
+        (mapAnswer openingArray (opening (edition booleans numbers strings) (now (file .entry))))) ⌝ }
 {
     match read::open(
         file,
@@ -39,7 +43,7 @@ pub extern "C" fn terminfo_open(
             *tables = c_numbers::opening_array(t, b);
             0
         }
-        Opened::Refused(why) => c_numbers::file_number(why) * c_numbers::TOP,
+        Opened::Refused(why) => c_numbers::top(refusal_numbers::of_file(why)),
     }
 }
 
@@ -144,7 +148,10 @@ pub extern "C" fn terminfo_ask(
     places: &[usize; 8],
     answers: &mut [u64; 8],
 ) -> u64
-    ensures { λ r. ⌜ (r ≡ numbered none (asking8 (edition booleans numbers strings) (now (file .entry)) (now (kinds .entry)) (now (places .entry)))) × (now (answers .exit) ≡ arrayAfter (now (answers .entry)) (asking8 (edition booleans numbers strings) (now (file .entry)) (now (kinds .entry)) (now (places .entry)))) ⌝ }
+    ensures { λ r. ⌜ (r ≡ numbered none
+        (asking8 (edition booleans numbers strings) (now (file .entry)) (now (kinds .entry)) (now (places .entry))))
+        × (now (answers .exit) ≡ arrayAfter (now (answers .entry))
+        (asking8 (edition booleans numbers strings) (now (file .entry)) (now (kinds .entry)) (now (places .entry)))) ⌝ }
 {
     let e = Edition {
         booleans,
@@ -177,7 +184,10 @@ pub extern "C" fn terminfo_write(
     lent: &[u8],
     buffer: &mut [u8],
 ) -> u64
-    ensures { λ r. ⌜ WrittenNumber (edition booleans numbers strings) (handed (now (names .entry)) (now («boolean_kinds» .entry)) (now («number_kinds» .entry)) (now («number_values» .entry)) (now («string_kinds» .entry)) (now («string_starts» .entry)) (now («string_lengths» .entry)) (now (lent .entry))) (now (buffer .entry)) (now (buffer .exit)) r ⌝ }
+    ensures { λ r. ⌜ WrittenNumber (edition booleans numbers strings)
+        (handed (now (names .entry)) (now («boolean_kinds» .entry)) (now («number_kinds» .entry))
+        (now («number_values» .entry)) (now («string_kinds» .entry)) (now («string_starts» .entry))
+        (now («string_lengths» .entry)) (now (lent .entry))) (now (buffer .entry)) (now (buffer .exit)) r ⌝ }
 {
     let w = write::write(
         Edition {
@@ -208,7 +218,8 @@ pub extern "C" fn terminfo_merge(
     strings: usize,
     buffer: &mut [u8],
 ) -> u64
-    ensures { λ r. ⌜ MergedNumber (edition booleans numbers strings) (now (first .entry)) (now (second .entry)) (now (buffer .entry)) (now (buffer .exit)) r ⌝ }
+    ensures { λ r. ⌜ MergedNumber (edition booleans numbers strings) (now (first .entry)) (now (second .entry))
+        (now (buffer .entry)) (now (buffer .exit)) r ⌝ }
 {
     let m = merge::merge(
         first,
@@ -249,8 +260,8 @@ pub extern "C" fn terminfo_capability(kind: u8, place: usize) -> u64
     17 * c_numbers::TOP
 }
 
-// Expands a string into the buffer from place at on: the steps above the output's length, or the refusal. The lasting variables change in
-// place.
+// Expands a string into the buffer from place at on: the steps above the output's length, or the refusal. The lasting
+// variables change in place.
 #[no_mangle]
 pub extern "C" fn terminfo_expand(
     string: &[u8],
@@ -259,7 +270,9 @@ pub extern "C" fn terminfo_expand(
     buffer: &mut [u8],
     at: usize,
 ) -> u64
-    ensures { λ r. ⌜ ExpandedNumber (expanding (now (string .entry)) (now (arguments .entry)) (now (lasting .entry)) (length (now (buffer .entry))) at) (now (lasting .entry)) (now (lasting .exit)) (now (buffer .entry)) at (now (buffer .exit)) r ⌝ }
+    ensures { λ r. ⌜ ExpandedNumber (expanding (now (string .entry)) (now (arguments .entry)) (now (lasting .entry))
+        (length (now (buffer .entry))) at) (now (lasting .entry)) (now (lasting .exit)) (now (buffer .entry)) at
+        (now (buffer .exit)) r ⌝ }
 {
     let nine = *arguments;
     c_numbers::expansion_number(expand::expand_lent(string, nine, lasting, buffer, at))

@@ -1,6 +1,6 @@
 -- What compiling gives (document 01: Source text; Numbers of refusal, order of text).
 -- Assumes nothing.
-use mathlib.Core.Bool.{Bool, not}
+use mathlib.Core.Bool.{not}
 use mathlib.Core.List.{List, [], _∷_}
 use Prim.Native.Nat.{ℕ}
 use lib.Dec.{leb}

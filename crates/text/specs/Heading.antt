@@ -1,35 +1,31 @@
--- The header (document 01: Source text): "starts in column 1, has at least two names parted by `|`, ends in a comma, then only white space
--- to the line's end; the text's end closes a line too".
+-- The header (document 01: Source text): "starts in column 1, has at least two names parted by `|`, ends in a comma,
+-- then only white space to the line's end; the text's end closes a line too".
 -- Assumes nothing.
-use mathlib.Core.Bool.{Bool, true, false, _&&_, _||_, not}
+use mathlib.Core.Bool.{Bool, false, _&&_, _||_, not}
 use mathlib.Core.List.{List, [], _∷_}
 use Prim.Native.Nat.{ℕ, _+_, _-_}
-use lib.Dec.{eqb, leb, ltb}
+use Prim.Native.Char.{code}
+use lib.Dec.{leb, ltb}
 use lib.ListN.{length, getD, take, drop}
 use Rattle.base.specs.If.{if_then_else_}
 use Rattle.base.specs.Scan.{every}
-use Rattle.text.specs.declared.Class.{Class}
-use Rattle.text.specs.declared.Class.the-variants as C
+use Rattle.names.specs.Names.{parted}
+use Rattle.text.specs.declared.ByteClass.{ByteClass}
+use Rattle.text.specs.declared.ByteClass.the-variants as C
 use Rattle.text.specs.declared.Header.{Header}
 use Rattle.text.specs.declared.Header.the-variants.{Right, Malformed, LongAlias}
-use Rattle.text.specs.Bytes.{isIn, runEnd}
+use Rattle.text.specs.Bytes.{_is_, isIn, runEnd}
 
 -- "alias above 14 bytes"
 abbrev pub aliasMost : ℕ
 aliasMost = 14
 
--- one more byte in front of the first name
-abbrev pub onFirst : ℕ → List (List ℕ) → List (List ℕ)
-onFirst b [] = (b ∷ []) ∷ []
-onFirst b (n ∷ ns) = (b ∷ n) ∷ ns
-
--- the names between bars, which are 124
-unfoldable pub parted : List ℕ → List (List ℕ)
-parted [] = [] ∷ []
-parted (b ∷ s) = if eqb b 124 then [] ∷ parted s else onFirst b (parted s)
+-- "names parted by `|`"
+abbrev pub namesIn : List ℕ → List (List ℕ)
+namesIn s = parted (code "|") s
 
 -- one or more bytes, all of the class
-unfoldable pub madeOf : Class → List ℕ → Bool
+unfoldable pub madeOf : ByteClass → List ℕ → Bool
 madeOf c n = leb 1 (length n) && every (λ i. isIn c (getD n i 0)) (length n)
 
 -- all names but the last, and the last; there are two at least
@@ -47,7 +43,7 @@ longAlias (n ∷ m ∷ ns) = ltb aliasMost (length n) || longAlias (m ∷ ns)
 
 -- the line ends at i
 abbrev pub lineEnds : List ℕ → ℕ → Bool
-lineEnds t i = leb (length t) i || eqb (getD t i 0) 10
+lineEnds t i = leb (length t) i || getD t i 0 is "\n"
 
 -- the names up to the comma at c
 abbrev pub namesTo : List ℕ → ℕ → ℕ → List ℕ
@@ -57,9 +53,9 @@ namesTo t i c = take (c - i) (drop i t)
 abbrev pub headerTo : List ℕ → ℕ → ℕ → Header
 headerTo t i c =
     if leb (length t) c then Malformed
-    else if not (rightNames (parted (namesTo t i c))) then Malformed
+    else if not (rightNames (namesIn (namesTo t i c))) then Malformed
     else if not (lineEnds t (runEnd C.Blank t (c + 1))) then Malformed
-    else if longAlias (parted (namesTo t i c)) then LongAlias
+    else if longAlias (namesIn (namesTo t i c)) then LongAlias
     else Right c
 
 unfoldable pub headerAt : List ℕ → ℕ → Header

@@ -1,24 +1,24 @@
--- Blank lines and comment lines (document 01: Source text). Here the text's end is a line end, and a NUL byte is a byte like any other.
+-- Blank lines and comment lines (document 01: Source text). Here the text's end is a line end, and a NUL byte is a
+-- byte like any other.
 -- Assumes nothing.
-use mathlib.Core.Bool.{Bool}
 use mathlib.Core.List.{List}
 use Prim.Native.Nat.{ℕ, _+_, _-_}
 use lib.Dec.{eqb, leb}
 use lib.ListN.{length, getD}
 use Rattle.base.specs.If.{if_then_else_}
 use Rattle.base.specs.Loop.{Turn, go, stop, loop}
-use Rattle.text.specs.declared.Class.the-variants as C
+use Rattle.text.specs.declared.ByteClass.the-variants as C
 use Rattle.text.specs.declared.Line.{Line}
 use Rattle.text.specs.declared.Line.the-variants.{End, Column, Indented}
-use Rattle.text.specs.Bytes.{runEnd}
+use Rattle.text.specs.Bytes.{_is_, runEnd}
 
--- a line that starts at i, whose first nonblank is at j: "blank lines and lines whose first nonblank is `#` are skipped"; 10 is the
--- line end, 35 `#`
+-- a line that starts at i, whose first nonblank is at j: "blank lines and lines whose first nonblank is `#` are
+-- skipped"
 abbrev pub lineTurnAt : List ℕ → ℕ → ℕ → Turn ℕ Line
 lineTurnAt t i j =
     if leb (length t) j then stop End
-    else if eqb (getD t j 0) 10 then go (j + 1)
-    else if eqb (getD t j 0) 35 then go (runEnd C.Line t j + 1)
+    else if getD t j 0 is "\n" then go (j + 1)
+    else if getD t j 0 is "#" then go (runEnd C.Line t j + 1)
     else if eqb j i then stop (Column i)
     else stop (Indented j)
 
@@ -33,7 +33,7 @@ lineAt t i = loop (λ (j : ℕ). length t - j) (lineTurn t) End i
 abbrev pub nextFrom : List ℕ → ℕ → Line
 nextFrom t j =
     if leb (length t) j then End
-    else if eqb (getD t j 0) 10 then lineAt t (j + 1)
+    else if getD t j 0 is "\n" then lineAt t (j + 1)
     else Indented j
 
 unfoldable pub nextAt : List ℕ → ℕ → Line

@@ -1,18 +1,19 @@
 -- Strings of source text (document 01: Source text).
 -- Assumes nothing.
-use mathlib.Core.Bool.{Bool, _&&_, _||_}
+use mathlib.Core.Bool.{Bool, _||_}
 use mathlib.Core.List.{List, [], _∷_, _++_}
 use Prim.Native.Nat.{ℕ, _+_, _-_, _*_, _%_}
+use Prim.Native.Char.{code}
 use lib.Dec.{eqb, leb, ltb}
 use lib.ListN.{length, getD}
 use Rattle.base.specs.If.{if_then_else_}
 use Rattle.base.specs.Loop.{Turn, go, stop, loop}
-use Rattle.text.specs.declared.Class.the-variants as C
-use Rattle.text.specs.declared.Item.{Item}
-use Rattle.text.specs.declared.Item.the-variants.{End, Byte, Removed, Malformed}
+use Rattle.text.specs.declared.ByteClass.the-variants as C
+use Rattle.text.specs.declared.StringItem.{StringItem}
+use Rattle.text.specs.declared.StringItem.the-variants.{End, Byte, Removed, Malformed}
 use Rattle.text.specs.declared.Content.{Content}
 use Rattle.text.specs.declared.Content.the-variants as W
-use Rattle.text.specs.Bytes.{between, isBlank, digitOf, isDigit, runEnd}
+use Rattle.text.specs.Bytes.{_is_, between, isBlank, digitOf, runEnd}
 
 -- the value beside a byte in a list of pairs, 0 where it isn't there
 abbrev pub beside : ℕ → List (ℕ × ℕ) → ℕ
@@ -23,24 +24,24 @@ beside b (p ∷ ps) = if eqb b (p .0) then p .1 else beside b ps
 unfoldable pub letterOf : ℕ → ℕ
 letterOf b =
     beside b
-    ((69, 27)
-    ∷ (101, 27)
-    ∷ (110, 10)
-    ∷ (108, 10)
-    ∷ (114, 13)
-    ∷ (116, 9)
-    ∷ (98, 8)
-    ∷ (102, 12)
-    ∷ (115, 32)
-    ∷ (94, 94)
-    ∷ (92, 92)
-    ∷ (44, 44)
-    ∷ (58, 58)
+    ((code "E", 27)
+    ∷ (code "e", 27)
+    ∷ (code "n", 10)
+    ∷ (code "l", 10)
+    ∷ (code "r", 13)
+    ∷ (code "t", 9)
+    ∷ (code "b", 8)
+    ∷ (code "f", 12)
+    ∷ (code "s", 32)
+    ∷ (code "^", code "^")
+    ∷ (code "\\", code "\\")
+    ∷ (code ",", code ",")
+    ∷ (code ":", code ":")
     ∷ [])
 
--- "`\` with one to three octal digits (the most there are, at most 255)": digits of values a, b and c from place i on, of which the
--- second and the third may be none
-unfoldable pub octalOf : ℕ → ℕ → ℕ → ℕ → Item
+-- "`\` with one to three octal digits (the most there are, at most 255)": digits of values a, b and c from place i
+-- on, of which the second and the third may be none
+unfoldable pub octalOf : ℕ → ℕ → ℕ → ℕ → StringItem
 octalOf a b c i =
     if ltb b 8 then
     (if ltb c 8 then (if leb (a * 64 + b * 8 + c) 255 then Byte (a * 64 + b * 8 + c) (i + 3) else Malformed)
@@ -51,7 +52,7 @@ abbrev pub digitAt : List ℕ → ℕ → ℕ
 digitAt t i = digitOf (getD t i 0)
 
 -- behind a backslash
-unfoldable pub escapeAt : List ℕ → ℕ → Item
+unfoldable pub escapeAt : List ℕ → ℕ → StringItem
 escapeAt t i =
     if ltb (digitAt t i) 8 then octalOf (digitAt t i) (digitAt t (i + 1)) (digitAt t (i + 2)) i
     else if eqb (letterOf (getD t i 0)) 0 then Malformed
@@ -62,29 +63,29 @@ unfoldable pub isControl : ℕ → Bool
 isControl b = between 64 95 b || between 97 122 b
 
 -- behind a caret: "code mod 32; `^?` 127"
-unfoldable pub caretAt : List ℕ → ℕ → Item
+unfoldable pub caretAt : List ℕ → ℕ → StringItem
 caretAt t i =
-    if eqb (getD t i 0) 63 then Byte 127 (i + 1)
+    if getD t i 0 is "?" then Byte 127 (i + 1)
     else if isControl (getD t i 0) then Byte (getD t i 0 % 32) (i + 1)
     else Malformed
 
 -- "A line end and the white space after it, of which there must be some, are removed"
-unfoldable pub lineEndAt : List ℕ → ℕ → Item
+unfoldable pub lineEndAt : List ℕ → ℕ → StringItem
 lineEndAt t i = if isBlank (getD t i 0) then Removed (runEnd C.Blank t (i + 1)) else Malformed
 
--- "Strings hold codes 32 to 126 up to an unescaped comma": 44 the comma, 92 the backslash, 94 the caret, 10 the line end
-unfoldable pub itemAt : List ℕ → ℕ → Item
-itemAt t i =
-    if eqb (getD t i 0) 44 then End
-    else if eqb (getD t i 0) 92 then escapeAt t (i + 1)
-    else if eqb (getD t i 0) 94 then caretAt t (i + 1)
-    else if eqb (getD t i 0) 10 then lineEndAt t (i + 1)
+-- "Strings hold codes 32 to 126 up to an unescaped comma"
+unfoldable pub stringItemAt : List ℕ → ℕ → StringItem
+stringItemAt t i =
+    if getD t i 0 is "," then End
+    else if getD t i 0 is "\\" then escapeAt t (i + 1)
+    else if getD t i 0 is "^" then caretAt t (i + 1)
+    else if getD t i 0 is "\n" then lineEndAt t (i + 1)
     else if between 32 126 (getD t i 0) then Byte (getD t i 0) (i + 1)
     else Malformed
 
 -- "A result of 0 is stored as 128"
-unfoldable pub stored : ℕ → ℕ
-stored b = if eqb b 0 then 128 else b
+unfoldable pub storedByte : ℕ → ℕ
+storedByte b = if eqb b 0 then 128 else b
 
 -- a string read to the place at, with the bytes that it stands for so far
 pub record Reading : Type 0 where
@@ -98,9 +99,9 @@ pub data Read : Type 0 where
 
 unfoldable pub readTurn : List ℕ → Reading → Turn Reading Read
 readTurn t s =
-    elim (itemAt t (s .at)) [
+    elim (stringItemAt t (s .at)) [
       | End ↦ stop (whole (s .bytes) (s .at))
-      | Byte b k ↦ go (record { at = k; bytes = s .bytes ++ (stored b ∷ []) })
+      | Byte b k ↦ go (record { at = k; bytes = s .bytes ++ (storedByte b ∷ []) })
       | Removed k ↦ go (record { at = k; bytes = s .bytes })
       | Malformed ↦ stop malformed
     ]

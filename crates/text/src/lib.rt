@@ -13,7 +13,7 @@ pub const DIGITS_MOST: usize = 99;
 pub const NUMBER_MOST: usize = 32767;
 
 // Classes of bytes.
-pub enum Class {
+pub enum ByteClass {
     // space and tab
     Blank,
     // a byte of a capability's name
@@ -27,18 +27,18 @@ pub enum Class {
     // all but the comma
     Header,
     // a digit of a base
-    Digit(Base),
+    Digit(NumberBase),
 }
 
 // The bases of numbers.
-pub enum Base {
+pub enum NumberBase {
     Octal,
     Decimal,
     Hexadecimal,
 }
 
 // What stands at a place of a string.
-pub enum Item {
+pub enum StringItem {
     // the comma that ends it
     End,
     // a byte, and the place past it
@@ -66,7 +66,7 @@ pub enum Line {
 }
 
 // What a field says of its capability.
-pub enum Form {
+pub enum FieldForm {
     Boolean,
     Cancelled,
     Number(u32),
@@ -79,7 +79,7 @@ pub enum Form {
 // A form in the text.
 pub enum Formed {
     // the form, and the place past it
-    Right(Form, usize),
+    Right(FieldForm, usize),
     Malformed,
 }
 
@@ -90,7 +90,7 @@ pub enum Field {
         // the name's place and the place past it
         name: usize,
         end: usize,
-        form: Form,
+        form: FieldForm,
         // the place past the comma
         next: usize,
     },
@@ -119,7 +119,8 @@ pub enum TextRefusal {
     Limit,
 }
 
-// What a field says, as the writer takes it: a capability's place, its kind (0 absent, 1 present, 2 cancelled) and its content.
+// What a field says, as the writer takes it: a capability's place, its kind (0 absent, 1 present, 2 cancelled) and
+// its content.
 pub enum Said {
     // the field is dropped
     Nothing,

@@ -1,12 +1,12 @@
-// The bytes of source text, their classes and runs of a class (document 01: Source text). Proved: each function answers every text and
-// place as text/specs says. Assumed: nothing.
+// The bytes of source text, their classes and runs of a class (document 01: Source text). Proved: each function
+// answers every text and place as text/specs says. Assumed: nothing.
 ghost use mathlib.Core.Path.{_≡_};
 ghost use Prim.Native.Nat.{_+_, _<_};
 ghost use lib.ListN.{getD};
 ghost use Rattle.text.specs.Bytes.{digitOf, isIn, runEnd};
-ghost use Rattle.text.specs.declared.Class.the-variants as Classes;
-use text::Base;
-use text::Class;
+ghost use Rattle.text.specs.declared.ByteClass.the-variants as Classes;
+use text::ByteClass;
+use text::NumberBase;
 
 // The byte at a place of the text; 0 past its end.
 pub fn byte_at(text: &[u8], at: usize) -> u8
@@ -28,35 +28,35 @@ pub fn digit(b: u8) -> u8
 }
 
 // The byte is of the class.
-pub fn is_in(class: Class, b: u8) -> bool
+pub fn is_in(class: ByteClass, b: u8) -> bool
     ensures { λ r. ⌜ r ≡ isIn class b ⌝ }
 {
     match class {
-        Class::Blank => b == b' ' || b == 9,
-        Class::Name => match b {
+        ByteClass::Blank => b == b' ' || b == 9,
+        ByteClass::Name => match b {
             b',' | b'=' | b'#' | b'@' => false,
             _ => 33 <= b && b <= 126,
         },
-        Class::Alias => match b {
+        ByteClass::Alias => match b {
             b',' | b'/' | b'|' => false,
             _ => 33 <= b && b <= 126,
         },
-        Class::LastName => match b {
+        ByteClass::LastName => match b {
             b',' | b'|' => false,
             _ => 32 <= b && b <= 126,
         },
-        Class::Line => b != 10,
-        Class::Header => b != b',',
-        Class::Digit(base) => match base {
-            Base::Octal => digit(b) < 8,
-            Base::Decimal => digit(b) < 10,
-            Base::Hexadecimal => digit(b) < 16,
+        ByteClass::Line => b != 10,
+        ByteClass::Header => b != b',',
+        ByteClass::Digit(base) => match base {
+            NumberBase::Octal => digit(b) < 8,
+            NumberBase::Decimal => digit(b) < 10,
+            NumberBase::Hexadecimal => digit(b) < 16,
         },
     }
 }
 
 // The first place from at on that holds no byte of the class, or the text's end.
-pub fn run_end(text: &[u8], class: Class, at: usize) -> usize
+pub fn run_end(text: &[u8], class: ByteClass, at: usize) -> usize
     ensures { λ r. ⌜ r ≡ runEnd class (now (text .entry)) at ⌝ }
 {
     let mut i = at;
@@ -75,7 +75,7 @@ pub fn name_end(text: &[u8], at: usize) -> usize
 {
     let mut i = at;
     while i < text.len() {
-        if !is_in(Class::Name, text[i]) {
+        if !is_in(ByteClass::Name, text[i]) {
             return i;
         }
         i += 1;
@@ -89,7 +89,7 @@ pub fn blanks_end(text: &[u8], at: usize) -> usize
 {
     let mut i = at;
     while i < text.len() {
-        if !is_in(Class::Blank, text[i]) {
+        if !is_in(ByteClass::Blank, text[i]) {
             return i;
         }
         i += 1;

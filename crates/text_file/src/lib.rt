@@ -1,5 +1,5 @@
-// The file of a description, its strings read from the text once more (document 01: Compiled entry). Proved: `write` puts what `fitting` of
-// text/specs gives. Assumed: nothing.
+// The file of a description, its strings read from the text once more (document 01: Compiled entry). Proved: `write`
+// puts what `fitting` of text/specs gives. Assumed: nothing.
 ghost use mathlib.Core.Path.{_≡_};
 ghost use mathlib.Core.Bool.{true};
 ghost use mathlib.Core.List.{[], _∷_};
@@ -25,8 +25,10 @@ use text::TextRefusal;
 
 // A string's part of the table, a present one's bytes and its NUL.
 fn put_string(b: &mut [u8], at: usize, kind: u8, start: usize, size: usize, text: &[u8])
-    requires { ⌜ (at + tableBytes (stateOf kind size) ≤ length (now b)) × (kind ≡ 1 → StandsAt (now text) start size) ⌝ }
-    ensures { λ _. ⌜ now (b .exit) ≡ putAt (now (b .entry)) at (stringTable (stateOf kind (bytesOf (readAt (now (text .entry)) start)) ∷ [])) ⌝ }
+    requires { ⌜ (at + tableBytes (stateOf kind size) ≤ length (now b))
+        × (kind ≡ 1 → StandsAt (now text) start size) ⌝ }
+    ensures { λ _. ⌜ now (b .exit) ≡ putAt (now (b .entry)) at
+        (stringTable (stateOf kind (bytesOf (readAt (now (text .entry)) start)) ∷ [])) ⌝ }
 {
     if kind != PRESENT {
         return;
@@ -46,7 +48,9 @@ fn put_table(
     n: usize,
 )
     requires { ⌜ TableFits (now b) at (stringsHanded (now kinds) (now starts) (now lengths) (now text)) n ⌝ }
-    ensures { λ _. ⌜ now (b .exit) ≡ putAt (now (b .entry)) at (stringTable (tabulate (textString (stringsHanded (now (kinds .entry)) (now (starts .entry)) (now (lengths .entry)) (now (text .entry)))) n)) ⌝ }
+    ensures { λ _. ⌜ now (b .exit) ≡ putAt (now (b .entry)) at
+        (stringTable (tabulate (textString (stringsHanded (now (kinds .entry)) (now (starts .entry))
+        (now (lengths .entry)) (now (text .entry)))) n)) ⌝ }
 {
     let mut p = at;
     let mut i = 0;
@@ -72,8 +76,14 @@ pub fn write(
     string_lengths: &[usize],
     buffer: &mut [u8],
 ) -> Compiled
-    requires { ⌜ (okEdition edition ≡ true) × Holds edition (handed (now names) (now «boolean_kinds») (now «number_kinds») (now «number_values») (now «string_kinds») (now «string_starts») (now «string_lengths») (now text)) ⌝ }
-    ensures { λ r. ⌜ Leaves (fitting (length (now (buffer .entry))) (textEntry edition (handed (now (names .entry)) (now («boolean_kinds» .entry)) (now («number_kinds» .entry)) (now («number_values» .entry)) (now («string_kinds» .entry)) (now («string_starts» .entry)) (now («string_lengths» .entry)) (now (text .entry))))) (now (buffer .entry)) (now (buffer .exit)) (saysCompiled r) ⌝ }
+    requires { ⌜ (okEdition edition ≡ true) × Holds edition
+        (handed (now names) (now «boolean_kinds») (now «number_kinds») (now «number_values») (now «string_kinds»)
+        (now «string_starts») (now «string_lengths») (now text)) ⌝ }
+    ensures { λ r. ⌜ Leaves (fitting (length (now (buffer .entry)))
+        (textEntry edition (handed (now (names .entry)) (now («boolean_kinds» .entry)) (now («number_kinds» .entry))
+        (now («number_values» .entry)) (now («string_kinds» .entry)) (now («string_starts» .entry))
+        (now («string_lengths» .entry)) (now (text .entry))))) (now (buffer .entry)) (now (buffer .exit))
+        (saysCompiled r) ⌝ }
 {
     if GIVEN_NAMES_MOST < names.len() {
         return Compiled::Refused(TextRefusal::Limit, 0);

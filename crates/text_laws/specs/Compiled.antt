@@ -1,7 +1,7 @@
 -- Demand 2 for compiled files, over the definition that the call's contract names.
 -- Assumes nothing.
-use mathlib.Core.Path.{_≡_, refl, sym, ap, _∙_, subst}
-use mathlib.Core.Bool.{Bool, true, false, not}
+use mathlib.Core.Path.{_≡_, refl, sym, subst}
+use mathlib.Core.Bool.{true, not}
 use mathlib.Core.List.{List, [], _∷_}
 use Prim.Native.Nat.{ℕ, _+_, _≤_}
 use native.Mathlib.Omega.{arith}
@@ -12,13 +12,11 @@ use Rattle.base.specs.If.{if_then_else_}
 use Rattle.edition.specs.declared.Edition.{Edition}
 use Rattle.edition.specs.Edition.{okEdition}
 use Rattle.entry.specs.Limits.{fileMost, givenNamesMost}
-use Rattle.base.specs.Answer.{Answer, refused, gives, isGiven}
-use Rattle.entry.specs.Reading.{Entry, view}
-use Rattle.entry.specs.Asking.{opening}
+use Rattle.base.specs.Answer.{Answer, refused, gives}
+use Rattle.entry.specs.Reading.{Entry}
 use Rattle.entry.specs.Writing.{encode}
-use Rattle.entry_laws.specs.Sound.{NoNul, Sound, WrittenIn}
-use Rattle.entry_laws.specs.Accepted.{passed}
-use Rattle.entry_laws.specs.Demands.{read-back}
+use Rattle.entry_laws.specs.Sound.{NoNul, WrittenIn}
+use Rattle.entry_laws.specs.Accepted.{test-passed}
 use Rattle.text.specs.declared.Header.{Header}
 use Rattle.text.specs.declared.Header.the-variants as H
 use Rattle.text.specs.declared.Line.{Line}
@@ -26,7 +24,7 @@ use Rattle.text.specs.declared.Line.the-variants.{End, Column, Indented}
 use Rattle.text.specs.Bytes.{textMost}
 use Rattle.text.specs.Lines.{lineAt}
 use Rattle.text.specs.Heading.{namesTo, headerAt}
-use Rattle.text.specs.Describing.{bare, fieldsFrom, headed, begun, describing}
+use Rattle.text.specs.Describing.{bare, headed, begun, describing}
 use Rattle.text.specs.Compiling.{fitting, fitted, compiling}
 use Rattle.text_laws.specs.DescribingLaws.{Sound-states, fields-sound, bare-sound}
 use Rattle.text_laws.specs.HeadingLaws.{names-free, names-some, header-right}
@@ -40,10 +38,17 @@ pub record TextMeets (e : Edition) (t : List ℕ) (x : Entry) : Type 0 where
   pub total : length (x .names) ≤ givenNamesMost
   pub size : length (encode x) ≤ fileMost
 
-pub compiled-if : (e : Edition) (t : List ℕ) (room : ℕ) (x : Entry) → TextMeets e t x → length (encode x) ≤ room → compiling e t room ≡ gives (encode x)
+pub compiled-if : (e : Edition) (t : List ℕ) (room : ℕ) (x : Entry) → TextMeets e t x → length (encode x) ≤ room
+    → compiling e t room ≡ gives (encode x)
 unfolding compiling fitting
 compiled-if e t room x m h =
-    rw (le-leb (length t) textMost (m .short), m .describes, le-leb (length (x .names)) givenNamesMost (m .total), le-leb (length (encode x)) fileMost (m .size), le-leb (length (encode x)) room h)
+    rw (
+      le-leb (length t) textMost (m .short),
+      m .describes,
+      le-leb (length (x .names)) givenNamesMost (m .total),
+      le-leb (length (encode x)) fileMost (m .size),
+      le-leb (length (encode x)) room h,
+    )
 
 -- a compiled file's text, and the entry that it describes
 pub record CompiledFrom (e : Edition) (t : List ℕ) (room : ℕ) (f : List ℕ) : Type 0 where
@@ -52,21 +57,23 @@ pub record CompiledFrom (e : Edition) (t : List ℕ) (room : ℕ) (f : List ℕ)
   pub fits : length (encode entry) ≤ room
   pub file : f ≡ encode entry
 
-pub compiled-only-if : (e : Edition) (t : List ℕ) (room : ℕ) (f : List ℕ) → compiling e t room ≡ gives f → CompiledFrom e t room f
+pub compiled-only-if : (e : Edition) (t : List ℕ) (room : ℕ) (f : List ℕ) → compiling e t room ≡ gives f
+    → CompiledFrom e t room f
 unfolding compiling fitting
 compiled-only-if e t room f w =
-    let p = passed (leb (length t) textMost) 1 [] (fitted room (describing e t)) f w in
+    let p = test-passed (leb (length t) textMost) 1 [] (fitted room (describing e t)) f w in
     by-entry (leb-true _ _ (p .0)) (describing e t) refl (p .1)
   where
-    by-entry : length t ≤ textMost → (a : Answer Entry) → describing e t ≡ a → fitted room a ≡ gives f → CompiledFrom e t room f
+    by-entry : length t ≤ textMost → (a : Answer Entry) → describing e t ≡ a → fitted room a ≡ gives f
+        → CompiledFrom e t room f
     by-entry l (refused n v) q u = absurd (let z : _≡_ {A = ℕ} 0 1 = cc in (let y : ⊥ = omega arith in y))
     by-entry l (gives x) q u =
         let n : ℕ = length (encode x) in
         let a₃ : Answer (List ℕ) = if not (leb n room) then refused 8 (n ∷ []) else gives (encode x) in
         let a₂ : Answer (List ℕ) = if not (leb n fileMost) then refused 9 [] else a₃ in
-        let p₁ = passed (leb (length (x .names)) givenNamesMost) 13 (0 ∷ []) a₂ f u in
-        let p₂ = passed (leb n fileMost) 9 [] a₃ f (p₁ .1) in
-        let p₃ = passed (leb n room) 8 (n ∷ []) (gives (encode x)) f (p₂ .1) in
+        let p₁ = test-passed (leb (length (x .names)) givenNamesMost) 13 (0 ∷ []) a₂ f u in
+        let p₂ = test-passed (leb n fileMost) 9 [] a₃ f (p₁ .1) in
+        let p₃ = test-passed (leb n room) 8 (n ∷ []) (gives (encode x)) f (p₂ .1) in
         record {
           entry = x;
           meets = record { short = l; describes = q; total = leb-true _ _ (p₁ .0); size = leb-true _ _ (p₂ .0) };
@@ -91,7 +98,7 @@ described-sound e t x w = by-line (lineAt t 0) w
 
     by-header : (i : ℕ) (h : Header) → headerAt t i ≡ h → headed e t i h ≡ gives x → Describes e x
     by-header i (H.Right c) q u =
-        let s = fields-sound e t (record { at = c + 1; entry = bare e (namesTo t i c) }) x (bare-sound e (namesTo t i c)) u in
+        let s = fields-sound e t (c + 1) (bare e (namesTo t i c)) x (bare-sound e (namesTo t i c)) u in
         let r = header-right t i c q .names in
         record {
           states = s .0;
@@ -106,7 +113,8 @@ described-sound e t x w = by-line (lineAt t 0) w
     by-line (Column i) u = by-header i (headerAt t i) refl u
     by-line (Indented i) u = no u
 
-pub compiled-holds : (e : Edition) (t : List ℕ) (room : ℕ) (f : List ℕ) → okEdition e ≡ true → (w : compiling e t room ≡ gives f)
+pub compiled-holds : (e : Edition) (t : List ℕ) (room : ℕ) (f : List ℕ) → okEdition e ≡ true
+    → (w : compiling e t room ≡ gives f)
     → WrittenIn e (compiled-only-if e t room f w .entry) f
 compiled-holds e t room f o w =
     let c = compiled-only-if e t room f w in
@@ -126,14 +134,3 @@ compiled-holds e t room f o w =
       edition = d .states .edition;
       file = c .file;
     }
-
--- "reading it gives back the same names and states": opening a compiled file in its edition gives those of the text's definition
-pub compiled-read-back : (e : Edition) (t : List ℕ) (room : ℕ) (f : List ℕ) (x : Entry) → okEdition e ≡ true → compiling e t room ≡ gives f → describing e t ≡ gives x
-    → (isGiven (opening e f) ≡ true) × (view e f ≡ x)
-compiled-read-back e t room f x o w q =
-    let c = compiled-only-if e t room f w in
-    let r = read-back e (c .entry) f (compiled-holds e t room f o w) in
-    (r .0, r .1 ∙ same (sym (c .meets .describes) ∙ q))
-  where
-    same : {y z : Entry} → _≡_ {A = Answer Entry} (gives y) (gives z) → y ≡ z
-    same u = cc

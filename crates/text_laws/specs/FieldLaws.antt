@@ -8,12 +8,12 @@ use native.Mathlib.Omega.{arith}
 use lib.Dec.{eqb, leb}
 use lib.ListN.{length, getD}
 use borrow.Author.Tests.{eqb-false, leb-true, eq-eqb, ne-eqb}
-use Rattle.base.specs.If.{and-left}
-use Rattle.text.specs.declared.Base.{Base}
-use Rattle.text.specs.declared.Base.the-variants.{Octal, Decimal, Hexadecimal}
-use Rattle.text.specs.declared.Class.the-variants as C
-use Rattle.text.specs.declared.Form.{Form}
-use Rattle.text.specs.declared.Form.the-variants as F
+use Rattle.base.proofs.IfLaws.{and-left}
+use Rattle.text.specs.declared.NumberBase.{NumberBase}
+use Rattle.text.specs.declared.NumberBase.the-variants.{Octal, Decimal, Hexadecimal}
+use Rattle.text.specs.declared.ByteClass.the-variants as C
+use Rattle.text.specs.declared.FieldForm.{FieldForm}
+use Rattle.text.specs.declared.FieldForm.the-variants as F
 use Rattle.text.specs.declared.Formed.{Formed}
 use Rattle.text.specs.declared.Formed.the-variants as G
 use Rattle.text.specs.declared.Field.{Field}
@@ -32,7 +32,7 @@ byte-within t i b z h = within (λ x. eqb x b) z t i (eq-eqb (getD t i 0) b h)
 -- ---- what holds of every form that is right
 
 -- a number is not above the most; a string stands at its place, and its bytes are counted
-abbrev FormRight : List ℕ → Form → Type 0
+abbrev FormRight : List ℕ → FieldForm → Type 0
 FormRight t F.Boolean = Unit {0}
 FormRight t F.Cancelled = Unit {0}
 FormRight t (F.Number v) = v ≤ numberMost
@@ -47,14 +47,19 @@ FormedRight t i G.Malformed = Unit {0}
 module _ (t : List ℕ) where
   number-right : (v n : ℕ) → FormRight t (numberOf v n)
   unfolding numberOf
-  number-right v n = if-both (FormRight t) (leb v numberMost && leb n digitsMost) (λ e. leb-true v numberMost (and-left (leb v numberMost) (leb n digitsMost) e)) (λ _. tt)
+  number-right v n =
+      if-both (FormRight t) (leb v numberMost && leb n digitsMost)
+      (λ e. leb-true v numberMost (and-left (leb v numberMost) (leb n digitsMost) e)) (λ _. tt)
 
-  digits-right : (base : Base) (p i : ℕ) → p ≤ i → FormedRight t p (digitsAt base t i)
+  digits-right : (base : NumberBase) (p i : ℕ) → p ≤ i → FormedRight t p (digitsAt base t i)
   unfolding digitsIn
   digits-right base p i l =
       if-both (FormedRight t p) (eqb (runEnd (C.Digit base) t i) i) (λ _. tt)
-      (λ _. let g = run-ge (C.Digit base) t i in
-      (omega arith, number-right (withDigits (baseOf base) t i (runEnd (C.Digit base) t i - i) 0) (runEnd (C.Digit base) t i - i)))
+      (λ _. let g = run-ge (C.Digit base) t i in (
+        omega arith,
+        number-right (withDigits (baseOf base) t i (runEnd (C.Digit base) t i - i) 0)
+            (runEnd (C.Digit base) t i - i),
+      ))
 
   numeral-right : (p i : ℕ) → p ≤ i → FormedRight t p (numberAt t i)
   unfolding numberAt
@@ -73,7 +78,11 @@ module _ (t : List ℕ) where
       by-read (whole s k) e =
           let a = read-after t i s k e in (
             omega arith,
-            ((λ m. let q : whole s k ≡ malformed = sym e ∙ m in let z : _≡_ {A = ℕ} 0 1 = cc in omega arith), ap (λ r. length (bytesOf r)) (sym e)),
+            (
+              (λ m. let q : whole s k ≡ malformed = sym e ∙ m in let z : _≡_ {A = ℕ} 0 1 = cc in omega arith),
+              ap
+                  (λ r. length (bytesOf r)) (sym e),
+            ),
           )
       by-read malformed e = tt
 
@@ -100,7 +109,7 @@ module _ (t : List ℕ) (dropped : Bool) (i e : ℕ) (q : e ≡ runEnd C.Name t 
     pub named-wrong : G.Malformed ≡ formAt t e → Malformed ≡ namedAt t dropped i
     named-wrong h = named-by G.Malformed h
 
-    module _ (f : Form) (k : ℕ) (h : G.Right f k ≡ formAt t e) where
+    module _ (f : FieldForm) (k : ℕ) (h : G.Right f k ≡ formAt t e) where
       pub named-open : (getD t k 0 ≡ 44 → ⊥) → Malformed ≡ namedAt t dropped i
       named-open b = rw (ne-eqb (getD t k 0) 44 b) at (named-by (G.Right f k) h)
 
@@ -121,10 +130,12 @@ FieldRight t p (Right dropped i k f next) = FieldAfter t p i k next × FormRight
 FieldRight t p Malformed = Unit {0}
 
 module _ (t : List ℕ) (p : ℕ) where
-  closed-right : (dropped : Bool) (i e : ℕ) (g : Formed) → p ≤ i → i < e → FormedRight t e g → FieldRight t p (closed t dropped i e g)
+  closed-right : (dropped : Bool) (i e : ℕ) (g : Formed) → p ≤ i → i < e → FormedRight t e g
+      → FieldRight t p (closed t dropped i e g)
   closed-right dropped i e (G.Right f k) l m r =
       if-both (FieldRight t p) (eqb (getD t k 0) 44)
-      (λ c. let w = within (λ b. eqb b 44) refl t k c in (record { name = l; some = m; form = omega arith; ends = omega arith }, r .1))
+      (λ c. let w = within (λ b. eqb b 44) refl t k c
+      in (record { name = l; some = m; form = omega arith; ends = omega arith }, r .1))
       (λ _. tt)
   closed-right dropped i e G.Malformed l m r = tt
 
@@ -134,21 +145,25 @@ module _ (t : List ℕ) (p : ℕ) where
       if-both (FieldRight t p) (eqb (runEnd C.Name t i) i) (λ _. tt)
       (λ e. let g = run-ge C.Name t i in
       let n = eqb-false (runEnd C.Name t i) i e in
-      closed-right dropped i (runEnd C.Name t i) (formAt t (runEnd C.Name t i)) l (omega arith) (form-right t (runEnd C.Name t i)))
+      closed-right dropped i (runEnd C.Name t i) (formAt t (runEnd C.Name t i)) l (omega arith)
+      (form-right t (runEnd C.Name t i)))
 
   field-right : FieldRight t p (fieldAt t p)
   unfolding fieldAt
   field-right =
-      if-both (FieldRight t p) (eqb (getD t p 0) 46) (λ _. named-right true (p + 1) (omega arith)) (λ _. named-right false p (omega arith))
+      if-both (FieldRight t p) (eqb (getD t p 0) 46) (λ _. named-right true (p + 1) (omega arith))
+      (λ _. named-right false p (omega arith))
 
   -- ---- of a field at p
 
-  pub field-after : (dropped : Bool) (i k : ℕ) (f : Form) (next : ℕ) → fieldAt t p ≡ Right dropped i k f next → FieldAfter t p i k next
+  pub field-after : (dropped : Bool) (i k : ℕ) (f : FieldForm) (next : ℕ) → fieldAt t p ≡ Right dropped i k f next
+      → FieldAfter t p i k next
   field-after dropped i k f next e = subst (FieldRight t p) e field-right .0
 
   pub field-string : (dropped : Bool) (i k s n next : ℕ) → fieldAt t p ≡ Right dropped i k (F.String s n) next
       → (readAt t s ≡ malformed → ⊥) × (n ≡ length (bytesOf (readAt t s)))
   field-string dropped i k s n next e = subst (FieldRight t p) e field-right .1
 
-  pub field-number : (dropped : Bool) (i k v next : ℕ) → fieldAt t p ≡ Right dropped i k (F.Number v) next → v ≤ numberMost
+  pub field-number : (dropped : Bool) (i k v next : ℕ) → fieldAt t p ≡ Right dropped i k (F.Number v) next
+      → v ≤ numberMost
   field-number dropped i k v next e = subst (FieldRight t p) e field-right .1

@@ -4,6 +4,8 @@ pub mod LineLaws
 pub mod NumberLaws
 pub mod FieldLaws
 pub mod HeadingLaws
+pub mod JudgingLaws
+pub mod SayingsLaws
 pub mod DescribingLaws
 pub mod Compiled
 pub mod Values

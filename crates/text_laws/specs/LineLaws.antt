@@ -9,8 +9,9 @@ use lib.Dec.{eqb, leb}
 use lib.ListN.{length, getD}
 use borrow.Author.Tests.{le-leb, lt-leb, leb-false, eq-eqb, ne-eqb, eqb-true}
 use Rattle.base.specs.If.{if_then_else_}
-use Rattle.base.specs.Loop.{Turn, go, stop, loop-go, loop-stop, loop-ind}
-use Rattle.text.specs.declared.Class.the-variants as C
+use Rattle.base.specs.Loop.{Turn, go, stop}
+use Rattle.base.proofs.LoopLaws.{loop-go, loop-stop, loop-ind}
+use Rattle.text.specs.declared.ByteClass.the-variants as C
 use Rattle.text.specs.declared.Line.{Line}
 use Rattle.text.specs.declared.Line.the-variants.{End, Column, Indented}
 use Rattle.text.specs.Bytes.{runEnd}
@@ -30,7 +31,8 @@ lines-falls t i j =
     (λ l. if-both Falls (eqb (getD t b 0) 10)
     (λ _ e. let k : b + 1 ≡ j = cc in let h = run-ge C.Blank t i in let m = leb-false (length t) b l in omega arith)
     (λ _. if-both Falls (eqb (getD t b 0) 35)
-    (λ _ e. let k : runEnd C.Line t b + 1 ≡ j = cc in let h = run-ge C.Blank t i in let m = leb-false (length t) b l in let n = run-ge C.Line t b in omega arith)
+    (λ _ e. let k : runEnd C.Line t b + 1 ≡ j = cc in let h = run-ge C.Blank t i in let m = leb-false (length t) b l
+    in let n = run-ge C.Line t b in omega arith)
     (λ _. if-both Falls (eqb b i) (λ _ e. clash e) (λ _ e. clash e))))
   where
     Falls : Turn ℕ Line → Type 0
@@ -56,18 +58,21 @@ module _ (t : List ℕ) (i j : ℕ) (at : j ≡ runEnd C.Blank t i) where
     module _ (n : getD t j 0 ≡ 10 → ⊥) where
       pub lines-comment : getD t j 0 ≡ 35 → lineAt t i ≡ lineAt t (runEnd C.Line t j + 1)
       unfolding lineAt lineTurn
-      lines-comment h = loop-go _ (lineTurn t) (lines-falls t) End i (runEnd C.Line t j + 1) (rw (← at) (simp (lt-leb _ _ l, h)))
+      lines-comment h =
+          loop-go _ (lineTurn t) (lines-falls t) End i (runEnd C.Line t j + 1) (rw (← at) (simp (lt-leb _ _ l, h)))
 
       module _ (m : getD t j 0 ≡ 35 → ⊥) where
         pub lines-column : j ≡ i → lineAt t i ≡ Column i
         unfolding lineAt lineTurn
         lines-column h =
-            loop-stop _ (lineTurn t) (lines-falls t) End i (Column i) (rw (← at) (simp (lt-leb _ _ l, ne-eqb _ _ n, ne-eqb _ _ m, eq-eqb _ _ h)))
+            loop-stop _ (lineTurn t) (lines-falls t) End i (Column i) (rw (← at)
+            (simp (lt-leb _ _ l, ne-eqb _ _ n, ne-eqb _ _ m, eq-eqb _ _ h)))
 
         pub lines-indented : (j ≡ i → ⊥) → lineAt t i ≡ Indented j
         unfolding lineAt lineTurn
         lines-indented h =
-            loop-stop _ (lineTurn t) (lines-falls t) End i (Indented j) (rw (← at) (simp (lt-leb _ _ l, ne-eqb _ _ n, ne-eqb _ _ m, ne-eqb _ _ h)))
+            loop-stop _ (lineTurn t) (lines-falls t) End i (Indented j) (rw (← at)
+            (simp (lt-leb _ _ l, ne-eqb _ _ n, ne-eqb _ _ m, ne-eqb _ _ h)))
 
 -- what stands past lines stands past their start, and within the text
 abbrev pub LineAfter : List ℕ → ℕ → Line → Type 0
@@ -92,12 +97,15 @@ lines-after t =
     at-stop : (i : ℕ) (r : Line) → lineTurn t i ≡ stop r → LineAfter t i r
     at-stop i r =
         let b = nonblank t i in
-        if-both (λ (u : Turn ℕ Line). u ≡ stop r → LineAfter t i r) (leb (length t) b) (λ _ e. let p : End ≡ r = cc in subst (LineAfter t i) p tt)
+        if-both (λ (u : Turn ℕ Line). u ≡ stop r → LineAfter t i r) (leb (length t) b)
+        (λ _ e. let p : End ≡ r = cc in subst (LineAfter t i) p tt)
         (λ l. if-both (λ (u : Turn ℕ Line). u ≡ stop r → LineAfter t i r) (eqb (getD t b 0) 10) (λ _ e. clash (cc))
         (λ _. if-both (λ (u : Turn ℕ Line). u ≡ stop r → LineAfter t i r) (eqb (getD t b 0) 35) (λ _ e. clash (cc))
         (λ _. if-both (λ (u : Turn ℕ Line). u ≡ stop r → LineAfter t i r) (eqb b i)
-        (λ q e. let p : Column i ≡ r = cc in let m = eqb-true b i q in let n = leb-false (length t) b l in subst (LineAfter t i) p (omega arith))
-        (λ q e. let p : Indented b ≡ r = cc in let m = run-ge C.Blank t i in let n = leb-false (length t) b l in subst (LineAfter t i) p (omega arith)))))
+        (λ q e. let p : Column i ≡ r = cc in let m = eqb-true b i q in let n = leb-false (length t) b l
+        in subst (LineAfter t i) p (omega arith))
+        (λ q e. let p : Indented b ≡ r = cc in let m = run-ge C.Blank t i in let n = leb-false (length t) b l
+        in subst (LineAfter t i) p (omega arith)))))
 
 pub next-after : (t : List ℕ) (i : ℕ) → LineAfter t i (nextAt t i)
 unfolding nextAt
@@ -105,5 +113,6 @@ next-after t i =
     let b = nonblank t i in
     if-both (LineAfter t i) (leb (length t) b) (λ _. tt)
     (λ l. if-both (LineAfter t i) (eqb (getD t b 0) 10)
-    (λ _. after-weaken t i (b + 1) (let h = run-ge C.Blank t i in omega arith) (lineAt t (b + 1)) (lines-after t (b + 1)))
+    (λ _. after-weaken t i (b + 1) (let h = run-ge C.Blank t i in omega arith) (lineAt t (b + 1))
+    (lines-after t (b + 1)))
     (λ _. (run-ge C.Blank t i, leb-false (length t) b l)))

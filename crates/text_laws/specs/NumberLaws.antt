@@ -10,12 +10,13 @@ use native.Mathlib.Omega.{arith}
 use lib.Dec.{leb}
 use lib.ListN.{length, getD}
 use borrow.Author.Tests.{le-leb, lt-leb, eq-eqb, ne-eqb}
-use Rattle.base.specs.If.{if_then_else_, below-or}
-use Rattle.text.specs.declared.Base.{Base}
-use Rattle.text.specs.declared.Base.the-variants.{Octal, Decimal, Hexadecimal}
-use Rattle.text.specs.declared.Class.the-variants as C
-use Rattle.text.specs.declared.Form.{Form}
-use Rattle.text.specs.declared.Form.the-variants as F
+use Rattle.base.specs.If.{if_then_else_}
+use Rattle.base.proofs.IfLaws.{below-or}
+use Rattle.text.specs.declared.NumberBase.{NumberBase}
+use Rattle.text.specs.declared.NumberBase.the-variants.{Octal, Decimal, Hexadecimal}
+use Rattle.text.specs.declared.ByteClass.the-variants as C
+use Rattle.text.specs.declared.FieldForm.{FieldForm}
+use Rattle.text.specs.declared.FieldForm.the-variants as F
 use Rattle.text.specs.declared.Formed.the-variants.{Right, Malformed}
 use Rattle.text.specs.Bytes.{digitOf, baseOf, runEnd}
 use Rattle.text.specs.Numbers.{numberMost, digitsMost, withDigits, numberOf, digitsIn, digitsAt}
@@ -59,7 +60,8 @@ module _ (base : ℕ) (t : List ℕ) (at e : ℕ) where
       pub valued-more : w ≤ numberMost → Valued base t at e (i + 1) w
       valued-more h = record { from = omega arith; within = omega arith; small = h; value = one-more }
 
-      pub valued-large : 1 ≤ base → numberMost < w → numberMost + 1 ≡ min (withDigits base t at (e - at) 0) (numberMost + 1)
+      pub valued-large : 1 ≤ base → numberMost < w → numberMost + 1 ≡ min (withDigits base t at (e - at) 0)
+          (numberMost + 1)
       valued-large b h = let r = digits-ge base t (i + 1) (e - (i + 1)) w b in let m = one-more in omega arith
 
     pub valued-fits : base ≤ 16 → v * base ≤ numberMost * 16
@@ -67,12 +69,12 @@ module _ (base : ℕ) (t : List ℕ) (at e : ℕ) where
 
 -- ---- the digits at a place
 
-pub base-fits : (base : Base) → (1 ≤ baseOf base) × (baseOf base ≤ 16)
+pub base-fits : (base : NumberBase) → (1 ≤ baseOf base) × (baseOf base ≤ 16)
 base-fits Octal = omega arith
 base-fits Decimal = omega arith
 base-fits Hexadecimal = omega arith
 
-module _ (base : Base) (t : List ℕ) (i e : ℕ) (q : e ≡ runEnd (C.Digit base) t i) where
+module _ (base : NumberBase) (t : List ℕ) (i e : ℕ) (q : e ≡ runEnd (C.Digit base) t i) where
   pub digits-after : i ≤ e
   digits-after = rw q (run-ge (C.Digit base) t i)
 
@@ -83,28 +85,35 @@ module _ (base : Base) (t : List ℕ) (i e : ℕ) (q : e ≡ runEnd (C.Digit bas
   module _ (n : e ≡ i → ⊥) where
     pub digits-within : e ≤ length t
     digits-within =
-        below-or i (length t) (λ l. rw q (run-le (C.Digit base) t i (omega arith))) (λ l. absurd (n (q ∙ run-end (C.Digit base) t i l)))
+        below-or i (length t) (λ l. rw q (run-le (C.Digit base) t i (omega arith)))
+        (λ l. absurd (n (q ∙ run-end (C.Digit base) t i l)))
 
-    digits-are : (f : Form) → numberOf (withDigits (baseOf base) t i (e - i) 0) (e - i) ≡ f → Right f e ≡ digitsAt base t i
+    digits-are : (f : FieldForm) → numberOf (withDigits (baseOf base) t i (e - i) 0) (e - i) ≡ f
+        → Right f e ≡ digitsAt base t i
     unfolding digitsIn
     digits-are f h = rw (← q, ne-eqb e i n, h)
 
     pub digits-many : digitsMost < e - i → Right F.LargeNumber e ≡ digitsAt base t i
     unfolding numberOf
-    digits-many l = digits-are F.LargeNumber (rw (lt-leb (e - i) digitsMost l) (by-test (leb (withDigits (baseOf base) t i (e - i) 0) numberMost)))
+    digits-many l =
+        digits-are F.LargeNumber (rw (lt-leb (e - i) digitsMost l)
+        (by-test (leb (withDigits (baseOf base) t i (e - i) 0) numberMost)))
       where
-        by-test : (b : Bool) → (if b && false then F.Number (withDigits (baseOf base) t i (e - i) 0) else F.LargeNumber) ≡ F.LargeNumber
+        by-test : (b : Bool) → (if b && false then F.Number (withDigits (baseOf base) t i (e - i) 0)
+            else F.LargeNumber) ≡ F.LargeNumber
         by-test true = refl
         by-test false = refl
 
     -- v is the value, or one above the most where that is less
-    module _ (v : ℕ) (m : v ≡ min (withDigits (baseOf base) t i (e - i) 0) (numberMost + 1)) (l : e - i ≤ digitsMost) where
-      pub digits-large : numberMost < v → Right F.LargeNumber e ≡ digitsAt base t i
-      unfolding numberOf
-      digits-large h = digits-are F.LargeNumber (rw (lt-leb (withDigits (baseOf base) t i (e - i) 0) numberMost (omega arith)))
+    module _ (v : ℕ) (m : v ≡ min (withDigits (baseOf base) t i (e - i) 0) (numberMost + 1)) (l : e - i ≤ digitsMost)
+      where
+        pub digits-large : numberMost < v → Right F.LargeNumber e ≡ digitsAt base t i
+        unfolding numberOf
+        digits-large h =
+            digits-are F.LargeNumber (rw (lt-leb (withDigits (baseOf base) t i (e - i) 0) numberMost (omega arith)))
 
-      pub digits-small : v ≤ numberMost → Right (F.Number v) e ≡ digitsAt base t i
-      unfolding numberOf
-      digits-small h =
-          let k : withDigits (baseOf base) t i (e - i) 0 ≡ v = omega arith in
-          digits-are (F.Number v) (rw (k, le-leb v numberMost h, le-leb (e - i) digitsMost l))
+        pub digits-small : v ≤ numberMost → Right (F.Number v) e ≡ digitsAt base t i
+        unfolding numberOf
+        digits-small h =
+            let k : withDigits (baseOf base) t i (e - i) 0 ≡ v = omega arith in
+            digits-are (F.Number v) (rw (k, le-leb v numberMost h, le-leb (e - i) digitsMost l))

@@ -6,12 +6,13 @@ use mathlib.Core.List.{List, [], _∷_}
 use Prim.Native.Nat.{ℕ, zero, suc, _+_, _-_, _≤_, _<_}
 use native.Mathlib.Omega.{arith}
 use lib.ListN.{length, getD, List·getD-eq-default}
-use Rattle.base.specs.If.{true-false, below-or}
-use Rattle.base.specs.Scan.{scan, scan-step, scan-hit, scan-end, scan-ge, scan-le, scan-before, scan-fails}
-use Rattle.text.specs.declared.Class.{Class}
+use Rattle.base.proofs.IfLaws.{true-false, below-or}
+use Rattle.base.specs.Scan.{scan}
+use Rattle.base.proofs.ScanLaws.{scan-step, scan-hit, scan-end, scan-ge, scan-le, scan-before, scan-fails}
+use Rattle.text.specs.declared.ByteClass.{ByteClass}
 use Rattle.text.specs.Bytes.{isIn, runEnd}
 
-module _ (c : Class) (t : List ℕ) (i : ℕ) where
+module _ (c : ByteClass) (t : List ℕ) (i : ℕ) where
   pub run-step : isIn c (getD t i 0) ≡ true → i < length t → runEnd c t i ≡ runEnd c t (i + 1)
   unfolding runEnd
   run-step h l = scan-step (λ j. isIn c (getD t j 0)) i (length t) h l
@@ -40,10 +41,12 @@ module _ (c : Class) (t : List ℕ) (i : ℕ) where
   -- the end is not, where it lies in the text
   pub run-fails : runEnd c t i < length t → isIn c (getD t (runEnd c t i) 0) ≡ false
   unfolding runEnd
-  run-fails h = scan-fails (λ j. isIn c (getD t j 0)) i (length t - i) (let l = run-ge in let m = scan-le (λ j. isIn c (getD t j 0)) i (length t - i) in omega arith)
+  run-fails h =
+      scan-fails (λ j. isIn c (getD t j 0)) i (length t - i) (let l = run-ge
+      in let m = scan-le (λ j. isIn c (getD t j 0)) i (length t - i) in omega arith)
 
 -- a loop's turns: the run from a place has been followed to i, and b is the test of the byte there
-module _ (c : Class) (t : List ℕ) (from i : ℕ) (e : runEnd c t i ≡ runEnd c t from) where
+module _ (c : ByteClass) (t : List ℕ) (from i : ℕ) (e : runEnd c t i ≡ runEnd c t from) where
   module _ (b : Bool) (h : b ≡ isIn c (getD t i 0)) (l : i < length t) where
     pub run-goes : not b ≡ false → runEnd c t (i + 1) ≡ runEnd c t from
     run-goes n = sym (run-step c t i (sym h ∙ sym (Bool·not-not b) ∙ ap not n) l) ∙ e

@@ -1,6 +1,6 @@
 -- The values that compiling's refusals give lie in the text.
 -- Assumes nothing.
-use mathlib.Core.Path.{_≡_, refl, sym, ap, _∙_, subst}
+use mathlib.Core.Path.{_≡_, refl, ap, subst}
 use mathlib.Core.Bool.{Bool, true, false, not}
 use mathlib.Core.List.{List, [], _∷_}
 use Prim.Native.Nat.{ℕ, _+_, _-_, _≤_, _<_}
@@ -9,7 +9,6 @@ use lib.Dec.{leb}
 use lib.ListN.{length, getD, take, drop}
 use borrow.Author.Tests.{leb-true}
 use Rattle.base.specs.If.{if_then_else_}
-use Rattle.base.specs.Loop.{Turn, go, stop, loop-ind}
 use Rattle.edition.specs.declared.Edition.{Edition}
 use Rattle.entry.specs.Limits.{fileMost, givenNamesMost, contentMost}
 use Rattle.entry.specs.State.{present}
@@ -19,8 +18,8 @@ use Rattle.entry.specs.Writing.{encode}
 use Rattle.names.specs.declared.Found.{Found}
 use Rattle.names.specs.declared.Found.the-variants as N
 use Rattle.names.specs.Lookup.{lookingUp}
-use Rattle.text.specs.declared.Form.{Form}
-use Rattle.text.specs.declared.Form.the-variants as F
+use Rattle.text.specs.declared.FieldForm.{FieldForm}
+use Rattle.text.specs.declared.FieldForm.the-variants as F
 use Rattle.text.specs.declared.Field.{Field}
 use Rattle.text.specs.declared.Field.the-variants as G
 use Rattle.text.specs.declared.Header.{Header}
@@ -31,11 +30,12 @@ use Rattle.text.specs.Bytes.{textMost}
 use Rattle.text.specs.Strings.{readAt, bytesOf}
 use Rattle.text.specs.Lines.{lineAt, nextAt}
 use Rattle.text.specs.Fields.{fieldAt}
-use Rattle.text.specs.Heading.{namesTo, headerAt}
-use Rattle.text.specs.Describing.{Saying, nothing, booleanBy, numberBy, stringBy, sayingOf, isUse, namedSaying, Judging, judgingOf, judging, Described, fieldTurn, lineTurn, describedTurn, fieldsFrom, bare, headed, begun, describing}
+use Rattle.text.specs.Heading.{headerAt}
+use Rattle.text.specs.Describing.{nothing, booleanBy, numberBy, stringBy, sayingOf, isUse, namedSaying}
+use Rattle.text.specs.Describing.{judgingOf, judging, SayingAt, FieldsRead, sayingsFrom, headed, begun, describing}
 use Rattle.text.specs.Compiling.{fitting, fitted, compiling}
 use Rattle.text_laws.specs.LineLaws.{LineAfter, next-after}
-use Rattle.text_laws.specs.DescribingLaws.{falls, turn-is}
+use Rattle.text_laws.specs.SayingsLaws.{sayings-ind}
 
 -- ---- a field's refusal gives the field's first byte
 
@@ -47,21 +47,21 @@ map-at : {A B : Type 0} (g : A → B) (p : ℕ) (a : Answer A) → At p a → At
 map-at g p (refused n v) h = h
 map-at g p (gives x) h = tt
 
-boolean-at : (p : ℕ) (f : Form) → At p (booleanBy p f)
+boolean-at : (p : ℕ) (f : FieldForm) → At p (booleanBy p f)
 boolean-at p F.Boolean = tt
 boolean-at p F.Cancelled = tt
 boolean-at p (F.Number v) = refl
 boolean-at p F.LargeNumber = refl
 boolean-at p (F.String i n) = refl
 
-number-at : (p : ℕ) (f : Form) → At p (numberBy p f)
+number-at : (p : ℕ) (f : FieldForm) → At p (numberBy p f)
 number-at p F.Boolean = refl
 number-at p F.Cancelled = tt
 number-at p (F.Number v) = tt
 number-at p F.LargeNumber = refl
 number-at p (F.String i n) = refl
 
-string-at : (t : List ℕ) (p : ℕ) (f : Form) → At p (stringBy t p f)
+string-at : (t : List ℕ) (p : ℕ) (f : FieldForm) → At p (stringBy t p f)
 string-at t p F.Boolean = refl
 string-at t p F.Cancelled = tt
 string-at t p (F.Number v) = refl
@@ -72,14 +72,14 @@ string-at t p (F.String i n) = by-test (leb n contentMost)
     by-test true = tt
     by-test false = refl
 
-found-at : (t : List ℕ) (p : ℕ) (f : Form) (c : Found) → At p (sayingOf t p f c)
+found-at : (t : List ℕ) (p : ℕ) (f : FieldForm) (c : Found) → At p (sayingOf t p f c)
 unfolding sayingOf
 found-at t p f (N.Boolean q) = map-at _ p (booleanBy p f) (boolean-at p f)
 found-at t p f (N.Number q) = map-at _ p (numberBy p f) (number-at p f)
 found-at t p f (N.String q) = map-at _ p (stringBy t p f) (string-at t p f)
 found-at t p f N.Unknown = refl
 
-named-at : (e : Edition) (t : List ℕ) (p : ℕ) (name : List ℕ) (f : Form) → At p (namedSaying e t p name f)
+named-at : (e : Edition) (t : List ℕ) (p : ℕ) (name : List ℕ) (f : FieldForm) → At p (namedSaying e t p name f)
 unfolding namedSaying
 named-at e t p name f = by-use (isUse name f)
   where
@@ -91,12 +91,15 @@ judging-at : (e : Edition) (t : List ℕ) (p : ℕ) → At p (judging e t p)
 unfolding judging
 judging-at e t p = by-field (fieldAt t p)
   where
-    by-dropped : (dropped : Bool) (name : List ℕ) (f : Form) → At p (if dropped then gives nothing else namedSaying e t p name f)
+    by-dropped : (dropped : Bool) (name : List ℕ) (f : FieldForm)
+        → At p (if dropped then gives nothing else namedSaying e t p name f)
     by-dropped true name f = tt
     by-dropped false name f = named-at e t p name f
 
     by-field : (f : Field) → At p (judgingOf e t p f)
-    by-field (G.Right dropped i k f next) = map-at _ p (if dropped then gives nothing else namedSaying e t p (take (k - i) (drop i t)) f) (by-dropped dropped _ f)
+    by-field (G.Right dropped i k f next) =
+        map-at _ p (if dropped then gives nothing else namedSaying e t p (take (k - i) (drop i t)) f)
+        (by-dropped dropped _ f)
     by-field G.Malformed = refl
 
 -- ---- a text's refusal
@@ -105,32 +108,26 @@ abbrev Within : {A : Type 0} → ℕ → Answer A → Type 0
 Within m (refused n v) = getD v 0 0 ≤ m
 Within m (gives x) = Unit {0}
 
-fields-within : (e : Edition) (t : List ℕ) (d : Described) → Within (length t) (fieldsFrom e t d)
-unfolding fieldsFrom
-fields-within e t d =
-    loop-ind _ (describedTurn e t) (falls e t) (refused 0 []) (λ (d : Described) (r : Answer Entry). Within (length t) r)
-    (λ d r u. by-line d r (nextAt t (d .at)) refl (turn-is e t d (nextAt t (d .at)) refl ∙ u))
-    (λ d d′ r u h. h)
-    d
+map-within : {A B : Type 0} (g : A → B) (m : ℕ) (a : Answer A) → Within m a → Within m (mapAnswer g a)
+map-within g m (refused n v) h = h
+map-within g m (gives x) h = tt
+
+sayings-within : (e : Edition) (t : List ℕ) (i : ℕ) → Within (length t) (sayingsFrom e t i)
+sayings-within e t i =
+    sayings-ind e t
+    (λ r a. Within (length t) a)
+    (λ r q. tt)
+    (λ r p q. in-text r p 10 (p ∷ []) (next-in r (Column p) q .1) refl)
+    (λ r p n v q w. in-text r p n v (next-in r (Indented p) q .1) (subst (At p) w (judging-at e t p)))
+    (λ r p j a q w h. h)
+    (record { at = i; sayings = [] })
   where
-    stop-is : {S R : Type 0} {r s : R} → _≡_ {A = Turn S R} (stop r) (stop s) → r ≡ s
-    stop-is u = cc
+    next-in : (r : FieldsRead) (l : Line) → nextAt t (r .at) ≡ l → LineAfter t (r .at) l
+    next-in r l q = subst (LineAfter t (r .at)) q (next-after t (r .at))
 
-    refused-within : (p : ℕ) (n : ℕ) (v : List ℕ) → p < length t → v ≡ p ∷ [] → Within {A = Entry} (length t) (refused n v)
-    refused-within p n v l q = let z : getD v 0 0 ≡ p = ap (λ (x : List ℕ). getD x 0 0) q in omega arith
-
-    by-answer : (x : Entry) (p : ℕ) (r : Answer Entry) → p < length t → (a : Answer Judging) → At p a → fieldTurn x a ≡ stop r → Within (length t) r
-    by-answer x p r l (refused n v) h u = subst (Within (length t)) (stop-is u) (refused-within p n v l h)
-    by-answer x p r l (gives j) h u = absurd (let z : _≡_ {A = ℕ} 0 1 = cc in (let y : ⊥ = omega arith in y))
-
-    by-line : (d : Described) (r : Answer Entry) (l : Line) → nextAt t (d .at) ≡ l → lineTurn e t (d .entry) l ≡ stop r → Within (length t) r
-    by-line d r End q u = subst (Within (length t)) (stop-is u) tt
-    by-line d r (Column p) q u =
-        let b = subst (LineAfter t (d .at)) q (next-after t (d .at)) in
-        subst (Within (length t)) (stop-is u) (refused-within p 10 (p ∷ []) (b .1) refl)
-    by-line d r (Indented p) q u =
-        let b = subst (LineAfter t (d .at)) q (next-after t (d .at)) in
-        by-answer (d .entry) p r (b .1) (judging e t p) (judging-at e t p) u
+    in-text : (r : FieldsRead) (p n : ℕ) (v : List ℕ) → p < length t → v ≡ p ∷ []
+        → Within {A = List SayingAt} (length t) (refused n v)
+    in-text r p n v l q = let z : getD v 0 0 ≡ p = ap (λ (x : List ℕ). getD x 0 0) q in omega arith
 
 describing-within : (e : Edition) (t : List ℕ) → Within (length t) (describing e t)
 unfolding describing
@@ -140,7 +137,7 @@ describing-within e t = by-line (lineAt t 0)
     none = omega arith
 
     by-header : (i : ℕ) (h : Header) → Within (length t) (headed e t i h)
-    by-header i (H.Right c) = fields-within e t (record { at = c + 1; entry = bare e (namesTo t i c) })
+    by-header i (H.Right c) = map-within _ (length t) (sayingsFrom e t (c + 1)) (sayings-within e t (c + 1))
     by-header i H.Malformed = none
     by-header i H.LongAlias = none
 
@@ -164,7 +161,8 @@ compiling-bounded e t room = by-length (leb (length t) textMost) refl
     by-room x l false = omega arith
 
     by-size : (x : Entry) (b : Bool) → leb (length (encode x)) fileMost ≡ b
-        → Bounded (mapAnswer length (if not b then refused 9 [] else if not (leb (length (encode x)) room) then refused 8 (length (encode x) ∷ []) else gives (encode x)))
+        → Bounded (mapAnswer length (if not b then refused 9 []
+        else if not (leb (length (encode x)) room) then refused 8 (length (encode x) ∷ []) else gives (encode x)))
     by-size x true q = by-room x (leb-true _ _ q) (leb (length (encode x)) room)
     by-size x false q = omega arith
 
@@ -174,10 +172,12 @@ compiling-bounded e t room = by-length (leb (length t) textMost) refl
     by-total x true = by-size x (leb (length (encode x)) fileMost) refl
     by-total x false = omega arith
 
-    by-entry : length t ≤ textMost → (a : Answer Entry) → Within (length t) a → Bounded (mapAnswer length (fitted room a))
+    by-entry : length t ≤ textMost → (a : Answer Entry) → Within (length t) a
+        → Bounded (mapAnswer length (fitted room a))
     by-entry l (refused n v) h = omega arith
     by-entry l (gives x) h = by-total x (leb (length (x .names)) givenNamesMost)
 
-    by-length : (b : Bool) → leb (length t) textMost ≡ b → Bounded (mapAnswer length (if not b then refused 1 [] else fitted room (describing e t)))
+    by-length : (b : Bool) → leb (length t) textMost ≡ b
+        → Bounded (mapAnswer length (if not b then refused 1 [] else fitted room (describing e t)))
     by-length true q = by-entry (leb-true _ _ q) (describing e t) (describing-within e t)
     by-length false q = omega arith

@@ -8,8 +8,8 @@ use native.Mathlib.Omega.{arith}
 use lib.Dec.{eqb, leb}
 use lib.ListN.{length, getD}
 use borrow.Author.Tests.{eqb-true, leb-true, ne-eqb, lt-leb}
-use Rattle.base.specs.If.{and-left, and-right}
-use Rattle.text.specs.declared.Class.the-variants as C
+use Rattle.base.proofs.IfLaws.{and-left, and-right}
+use Rattle.text.specs.declared.ByteClass.the-variants as C
 use Rattle.text.specs.declared.Line.the-variants.{Indented}
 use Rattle.text.specs.Bytes.{isBlank, isIn, runEnd}
 use Rattle.text.specs.Lines.{nextAt}

@@ -1,10 +1,10 @@
-// The lines of source text: what stands past blank lines and comment lines (document 01: Source text). Proved: each function answers every
-// text and place as text/specs says. Assumed: nothing.
+// The lines of source text: what stands past blank lines and comment lines (document 01: Source text). Proved: each
+// function answers every text and place as text/specs says. Assumed: nothing.
 ghost use mathlib.Core.Path.{_≡_};
 ghost use Prim.Native.Nat.{_+_, _<_};
 ghost use Rattle.text.specs.Lines.{lineAt, nextAt};
 ghost use Rattle.text_lines.specs.Usual.{isUsual};
-use text::Class;
+use text::ByteClass;
 use text::Line;
 use text_bytes::blanks_end;
 use text_bytes::byte_at;
@@ -24,7 +24,7 @@ pub fn line_at(text: &[u8], at: usize) -> Line
         if b == 10 {
             i = j + 1;
         } else if b == b'#' {
-            i = run_end(text, Class::Line, j) + 1;
+            i = run_end(text, ByteClass::Line, j) + 1;
         } else if j == i {
             return Line::Column(i);
         } else {

@@ -1,24 +1,25 @@
-// The numbers of source text (document 01: Source text). Proved: `number_at` is numberAt of text/specs. Assumed: nothing.
+// The numbers of source text (document 01: Source text). Proved: `number_at` is numberAt of text/specs. Assumed:
+// nothing.
 ghost use mathlib.Core.Path.{_≡_};
 ghost use Prim.Native.Nat.{_+_, _-_, _≤_, _<_, _^_, min};
 ghost use lib.ListN.{length};
 ghost use Rattle.text.specs.Bytes.{baseOf};
 ghost use Rattle.text.specs.Numbers.{numberMost, withDigits, digitsAt, numberAt};
 ghost use Rattle.text_numbers.specs.Bases.{baseAt, firstDigit};
-use text::Base;
-use text::Class;
+use text::ByteClass;
 use text::DIGITS_MOST;
-use text::Form;
+use text::FieldForm;
 use text::Formed;
 use text::NUMBER_MOST;
+use text::NumberBase;
 
-fn base_of(base: Base) -> usize
+fn base_of(base: NumberBase) -> usize
     ensures { λ r. ⌜ r ≡ baseOf base ⌝ }
 {
     match base {
-        Base::Octal => 8,
-        Base::Decimal => 10,
-        Base::Hexadecimal => 16,
+        NumberBase::Octal => 8,
+        NumberBase::Decimal => 10,
+        NumberBase::Hexadecimal => 16,
     }
 }
 
@@ -40,47 +41,47 @@ fn value_of(text: &[u8], base: usize, at: usize, end: usize) -> usize
 }
 
 // The number that stands in the digits from at on.
-fn digits_at(text: &[u8], base: Base, at: usize) -> Formed
+fn digits_at(text: &[u8], base: NumberBase, at: usize) -> Formed
     ensures { λ r. ⌜ r ≡ digitsAt base (now (text .entry)) at ⌝ }
 {
-    let past = text_bytes::run_end(text, Class::Digit(base), at);
+    let past = text_bytes::run_end(text, ByteClass::Digit(base), at);
     if past == at {
         return Formed::Malformed;
     }
     if DIGITS_MOST < past - at {
-        return Formed::Right(Form::LargeNumber, past);
+        return Formed::Right(FieldForm::LargeNumber, past);
     }
     let value = value_of(text, base_of(base), at, past);
     if NUMBER_MOST < value {
-        return Formed::Right(Form::LargeNumber, past);
+        return Formed::Right(FieldForm::LargeNumber, past);
     }
-    Formed::Right(Form::Number(value as u32), past)
+    Formed::Right(FieldForm::Number(value as u32), past)
 }
 
 // The base of the number at a place.
-fn base_at(text: &[u8], at: usize) -> Base
+fn base_at(text: &[u8], at: usize) -> NumberBase
     requires { ⌜ at ≤ length (now text) ⌝ }
     ensures { λ r. ⌜ r ≡ baseAt (now (text .entry)) at ⌝ }
 {
     if text_bytes::byte_at(text, at) != b'0' {
-        return Base::Decimal;
+        return NumberBase::Decimal;
     }
     let x = text_bytes::byte_at(text, at + 1);
     match x {
-        b'x' | b'X' => Base::Hexadecimal,
-        _ => Base::Octal,
+        b'x' | b'X' => NumberBase::Hexadecimal,
+        _ => NumberBase::Octal,
     }
 }
 
 // The first digit of a number at a place: `0x` is no part of the digits.
-fn first_digit(base: Base, at: usize) -> usize
+fn first_digit(base: NumberBase, at: usize) -> usize
     requires { ⌜ at + 2 < 2 ^ 64 ⌝ }
     ensures { λ r. ⌜ r ≡ firstDigit base at ⌝ }
 {
     match base {
-        Base::Octal => at,
-        Base::Decimal => at,
-        Base::Hexadecimal => at + 2,
+        NumberBase::Octal => at,
+        NumberBase::Decimal => at,
+        NumberBase::Hexadecimal => at + 2,
     }
 }
 

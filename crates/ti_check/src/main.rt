@@ -1,6 +1,6 @@
-// Judges the compiled file that its argument names, through the library only. It writes `accepted` and the file's size to standard
-// output, or a refusal to standard error, and hands its status to ti.
-// Proved: it is safe and ends, and it accepts what `reading` of entry/specs accepts. Assumed: what libc and os say of C.
+// Judges the compiled file that its argument names, through the library only. It writes `accepted` and the file's
+// size to standard output, or a refusal to standard error, and hands its status to ti. Proved: it is safe and ends,
+// and it accepts what `reading` of entry/specs accepts. Assumed: what libc and os say of C.
 use ti_common::FILE_ROOM;
 use ti_common::Status;
 

@@ -15,7 +15,7 @@ use mir.Val.{Fits, SFits}
 use mir.Facts.{fits-natAbs}
 use Rattle.io.specs.Counts.{Counts}
 use Rattle.io.specs.Digits.{Fewest}
-use Rattle.base.specs.If.{below-or}
+use Rattle.base.proofs.IfLaws.{below-or}
 use Rattle.beside.specs.Beside.{beside}
 use Rattle.shown.specs.Shown.{shown}
 

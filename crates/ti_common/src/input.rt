@@ -6,7 +6,8 @@ ghost use Rattle.io.specs.Counts.{Counts};
 use crate::fail;
 use libc::STDIN_FILENO;
 
-// Bytes that were put at a slice's start: how many, and whether they are all there are or the slice is full; else a failure was said.
+// Bytes that were put at a slice's start: how many, and whether they are all there are or the slice is full; else a
+// failure was said.
 pub struct Got {
     pub ok: bool,
     pub length: usize,
@@ -26,7 +27,8 @@ pub fn argument(i: usize, bytes: &mut [u8]) -> Got
 
 // Reads a descriptor to its end, or until the slice is full.
 pub fn read_all(fd: i32, bytes: &mut [u8]) -> Got
-    ensures { λ r. ⌜ (length (now (bytes .exit)) ≡ length (now (bytes .entry))) × (r .length ≤ length (now (bytes .entry))) ⌝ }
+    ensures { λ r. ⌜ (length (now (bytes .exit)) ≡ length (now (bytes .entry)))
+        × (r .length ≤ length (now (bytes .entry))) ⌝ }
 {
     let mut n = 0;
     while n < bytes.len() {
@@ -62,7 +64,8 @@ pub fn is_standard(path: &[u8]) -> bool {
 
 // Reads standard input.
 pub fn read_standard(bytes: &mut [u8]) -> Got
-    ensures { λ r. ⌜ (length (now (bytes .exit)) ≡ length (now (bytes .entry))) × (r .length ≤ length (now (bytes .entry))) ⌝ }
+    ensures { λ r. ⌜ (length (now (bytes .exit)) ≡ length (now (bytes .entry)))
+        × (r .length ≤ length (now (bytes .entry))) ⌝ }
 {
     let got = read_all(STDIN_FILENO, bytes);
     if !got.ok {
@@ -73,7 +76,8 @@ pub fn read_standard(bytes: &mut [u8]) -> Got
 
 // Reads the file that the path names.
 fn read_named(path: &[u8], bytes: &mut [u8]) -> Got
-    ensures { λ r. ⌜ (length (now (bytes .exit)) ≡ length (now (bytes .entry))) × (r .length ≤ length (now (bytes .entry))) ⌝ }
+    ensures { λ r. ⌜ (length (now (bytes .exit)) ≡ length (now (bytes .entry)))
+        × (r .length ≤ length (now (bytes .entry))) ⌝ }
 {
     let fd = os::open_read(path);
     if fd < 0 {
@@ -93,7 +97,8 @@ fn read_named(path: &[u8], bytes: &mut [u8]) -> Got
 
 // Reads the file that the path names, or standard input.
 pub fn read_file(path: &[u8], bytes: &mut [u8]) -> Got
-    ensures { λ r. ⌜ (length (now (bytes .exit)) ≡ length (now (bytes .entry))) × (r .length ≤ length (now (bytes .entry))) ⌝ }
+    ensures { λ r. ⌜ (length (now (bytes .exit)) ≡ length (now (bytes .entry)))
+        × (r .length ≤ length (now (bytes .entry))) ⌝ }
 {
     if is_standard(path) {
         return read_standard(bytes);

@@ -1,6 +1,6 @@
-// What the programs behind ti share: reading a file whole, saying a refusal, showing bytes, saving a file whole, and the status that a
-// program ends with. Proved: each function is safe and ends, and those of `refusal` and `shown` give what specs/ and the library's definitions
-// say. Assumed: what libc and os say of C.
+// What the programs behind ti share: reading a file whole, saying a refusal, showing bytes, saving a file whole, and
+// the status that a program ends with. Proved: each function is safe and ends, and those of `refusal` and `shown`
+// give what specs/ and the library's definitions say. Assumed: what libc and os say of C.
 ghost use Rattle.io.specs.Counts.{Counts};
 use entry::FILE_MOST;
 use libc::STDERR_FILENO;

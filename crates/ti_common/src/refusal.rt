@@ -2,30 +2,13 @@
 ghost use mathlib.Core.Path.{_≡_};
 ghost use Rattle.base.specs.Answer.{isGiven};
 ghost use Rattle.entry.specs.Reading.{reading};
-ghost use Rattle.entry.specs.Says.{fileNumber};
 use crate::Status;
 use crate::complain;
 use crate::complain_number;
-use entry::FileRefusal;
 use entry::Judged;
 
-// Document 01's number.
-pub fn file_number(why: FileRefusal) -> usize
-    ensures { λ r. ⌜ r ≡ fileNumber why ⌝ }
-{
-    match why {
-        FileRefusal::Length => 1,
-        FileRefusal::Magic => 2,
-        FileRefusal::Counts => 3,
-        FileRefusal::Names => 4,
-        FileRefusal::Boolean => 5,
-        FileRefusal::Number => 6,
-        FileRefusal::Slot => 7,
-    }
-}
-
 // What the numbers of files mean.
-fn complain_file(number: usize) {
+fn complain_file(number: u8) {
     match number {
         1 => {
             complain(b"wrong length (a file has 12 to 4,096 bytes, as many as its header says; ");
@@ -48,7 +31,7 @@ fn complain_file(number: usize) {
 }
 
 // What the numbers of texts and of expansion mean.
-fn complain_text(number: usize) {
+fn complain_text(number: u8) {
     match number {
         10 => complain(b"malformed text"),
         11 => complain(b"unknown capability, or one of another kind"),
@@ -76,10 +59,10 @@ pub fn complain_name(path: &[u8]) {
 }
 
 // Says that a file is refused: its name, document 01's number, what it means. The caller ends the line.
-pub fn begin_refusal(path: &[u8], number: usize) {
+pub fn begin_refusal(path: &[u8], number: u8) {
     complain_name(path);
     complain(b"refused ");
-    complain_number(number);
+    complain_number(number as usize);
     complain(b": ");
     if number < 10 {
         complain_file(number);
@@ -89,15 +72,15 @@ pub fn begin_refusal(path: &[u8], number: usize) {
 }
 
 // Says that a file is refused.
-pub fn refuse(path: &[u8], number: usize) -> Status {
+pub fn refuse(path: &[u8], number: u8) -> Status {
     begin_refusal(path, number);
     complain(b"\n");
     Status::Refused
 }
 
 // Says that a file is refused for want of room, and how many bytes are needed.
-pub fn refuse_room(path: &[u8], needed: usize) -> Status {
-    begin_refusal(path, 8);
+pub fn refuse_room(path: &[u8], number: u8, needed: usize) -> Status {
+    begin_refusal(path, number);
     complain(b", which needs ");
     complain_number(needed);
     complain(b" bytes\n");
@@ -105,7 +88,7 @@ pub fn refuse_room(path: &[u8], needed: usize) -> Status {
 }
 
 // Says that a string of the file is refused, and at which byte of it.
-pub fn refuse_at(path: &[u8], number: usize, place: usize) -> Status {
+pub fn refuse_at(path: &[u8], number: u8, place: usize) -> Status {
     begin_refusal(path, number);
     complain(b", at byte ");
     complain_number(place);
@@ -120,7 +103,7 @@ pub fn accept(path: &[u8], file: &[u8]) -> bool
     match read::judge(file) {
         Judged::Accepted(_) => true,
         Judged::Refused(why) => {
-            refuse(path, file_number(why));
+            refuse(path, refusal_numbers::of_file(why));
             false
         }
     }

@@ -1,16 +1,13 @@
-// Compiles source text from standard input to the file that its argument names, through the library only (document 01). It writes
-// `compiled` and the file's size to standard output, or a refusal with its place to standard error, and hands its status to ti.
-// Proved: it is safe and ends; the number is that of text/specs; line and column are those of specs/. Assumed: what libc and os say of C.
-ghost use mathlib.Core.Path.{_≡_};
+// Compiles source text from standard input to the file that its argument names, through the library only (document
+// 01). It writes `compiled` and the file's size to standard output, or a refusal with its place to standard error,
+// and hands its status to ti. Proved: it is safe and ends; the number is that of text/specs; line and column are
+// those of specs/. Assumed: what libc and os say of C.
 ghost use Prim.Native.Nat.{_≤_};
 ghost use lib.ListN.{length};
-ghost use Rattle.base.specs.Answer.{numberOf};
-ghost use Rattle.text.specs.Compiling.{saysCompiled};
 ghost use Rattle.positions.specs.Taken.{textRoom};
 use entry::FILE_MOST;
 use text::Compiled;
 use text::TEXT_MOST;
-use text::TextRefusal;
 use ti_common::Status;
 use ti_common::complain;
 use ti_common::complain_number;
@@ -19,26 +16,8 @@ use ti_common::refusal::refuse;
 // A text's most bytes and one more, so that a longer text is refused and never cut.
 const TEXT_ROOM: usize = TEXT_MOST + 1;
 
-// Document 01's number of the refusal; 0 where there is a file.
-fn number_of(answer: Compiled) -> usize
-    ensures { λ r. ⌜ r ≡ numberOf (saysCompiled answer) ⌝ }
-{
-    match answer {
-        Compiled::File(_) => 0,
-        Compiled::Length => 1,
-        Compiled::Refused(why, _) => match why {
-            TextRefusal::Malformed => 10,
-            TextRefusal::Unknown => 11,
-            TextRefusal::Use => 12,
-            TextRefusal::Limit => 13,
-        },
-        Compiled::Size => 9,
-        Compiled::Room(_) => 8,
-    }
-}
-
 // Says that a text is refused at a field, and where.
-fn refuse_field(text: &[u8], number: usize, place: usize) -> Status
+fn refuse_field(text: &[u8], number: u8, place: usize) -> Status
     requires { ⌜ length (now text) ≤ textRoom ⌝ }
 {
     ti_common::refusal::begin_refusal(b"-", number);
@@ -63,7 +42,7 @@ fn compile_to(path: &[u8], text: &[u8]) -> Status
 {
     let mut file = [0u8; FILE_MOST];
     let answer = compile::compile(text, &mut file);
-    let number = number_of(answer);
+    let number = refusal_numbers::of_compiled(answer);
     match answer {
         Compiled::File(n) => {
             let k = ti_common::part(n, &file);
@@ -72,7 +51,7 @@ fn compile_to(path: &[u8], text: &[u8]) -> Status
         Compiled::Length => refuse(b"-", number),
         Compiled::Refused(_, place) => refuse_field(text, number, place),
         Compiled::Size => refuse(b"-", number),
-        Compiled::Room(n) => ti_common::refusal::refuse_room(b"-", n),
+        Compiled::Room(n) => ti_common::refusal::refuse_room(b"-", number, n),
     }
 }
 

@@ -1,18 +1,15 @@
-// Expands a capability of a compiled file with up to nine numbers, through the library only: `[-v] FILE CAPABILITY [NUMBER]..`. The
-// output goes to standard output as it is; with -v, shown, and then the steps.
-// Proved: it is safe and ends; a word's number is that of specs/Number.antt, a refusal's that of expansion/specs; what stands for a byte is
-// what `shown` of ti_common/specs says. Assumed: what libc and os say of C.
-ghost use mathlib.Core.Path.{_≡_};
+// Expands a capability of a compiled file with up to nine numbers, through the library only: `[-v] FILE CAPABILITY
+// [NUMBER]..`. The output goes to standard output as it is; with -v, shown, and then the steps.
+// Proved: it is safe and ends; a word's number is that of specs/Number.antt, a refusal's that of expansion/specs;
+// what stands for a byte is what `shown` of ti_common/specs says. Assumed: what libc and os say of C.
 ghost use Prim.Native.Nat.{_≤_};
-ghost use Rattle.base.specs.Answer.{numberOf};
-ghost use Rattle.expansion.specs.Expanding.{saysExpansion};
 use edition::Place;
-use entry::StringState;
 use expansion::Expansion;
 use names::FIRST_EDITION;
 use names::Found;
 use number_words::Parsed;
 use shown::CONTENT_LEAST;
+use terminfo::ExpandedString;
 use ti_common::FILE_ROOM;
 use ti_common::Status;
 use ti_common::refusal::refuse;
@@ -83,38 +80,12 @@ fn say_output(output: &[u8], steps: usize, is_verbose: bool) -> Status {
     ti_common::written(say(output))
 }
 
-// Document 01's number of the refusal; 0 where there is output.
-fn number_of(answer: Expansion) -> usize
-    ensures { λ r. ⌜ r ≡ numberOf (saysExpansion answer) ⌝ }
-{
-    match answer {
-        Expansion::Done {
-            length: _,
-            steps: _,
-        } => 0,
-        Expansion::Place => 17,
-        Expansion::Length => 1,
-        Expansion::Malformed(_) => 14,
-        Expansion::Empty(_) => 15,
-        Expansion::Full(_) => 16,
-        Expansion::Room(_) => 8,
-    }
-}
-
-// Expands the string at a place that the file has.
-fn expand_string(
-    path: &[u8],
-    file: &[u8],
-    place: Place,
-    values: [i32; 9],
-    is_verbose: bool,
-) -> Status {
-    let mut out = [0u8; OUTPUT_ROOM];
-    let answer = terminfo::open_expand(file, FIRST_EDITION, place, values, &mut out, 0);
-    let number = number_of(answer);
+// Writes what expanding gave, or says the refusal.
+fn say_expansion(path: &[u8], out: &[u8], answer: Expansion, is_verbose: bool) -> Status {
+    let number = refusal_numbers::of_expansion(answer);
     match answer {
         Expansion::Done { length, steps } => {
-            let k = ti_common::part(length, &out);
+            let k = ti_common::part(length, out);
             say_output(&out[..k], steps, is_verbose)
         }
         Expansion::Place => refuse(path, number),
@@ -122,7 +93,7 @@ fn expand_string(
         Expansion::Malformed(i) => refuse_at(path, number, i),
         Expansion::Empty(i) => refuse_at(path, number, i),
         Expansion::Full(i) => refuse_at(path, number, i),
-        Expansion::Room(n) => ti_common::refusal::refuse_room(path, n),
+        Expansion::Room(n) => ti_common::refusal::refuse_room(path, number, n),
     }
 }
 
@@ -135,7 +106,7 @@ fn refuse_state(path: &[u8], name: &[u8], state: &[u8]) -> Status {
 }
 
 // Expands the string at a place, if the file has it.
-fn expand_place(
+fn expand_string(
     path: &[u8],
     file: &[u8],
     name: &[u8],
@@ -143,11 +114,11 @@ fn expand_place(
     values: [i32; 9],
     is_verbose: bool,
 ) -> Status {
-    match states::string(file, FIRST_EDITION, place) {
-        StringState::Present(_) => expand_string(path, file, place, values, is_verbose),
-        StringState::Absent => refuse_state(path, name, b" is absent\n"),
-        StringState::Cancelled => refuse_state(path, name, b" is cancelled\n"),
-        StringState::Refused => refuse(path, 17),
+    let mut out = [0u8; OUTPUT_ROOM];
+    match terminfo::open_expand(file, FIRST_EDITION, place, values, &mut out, 0) {
+        ExpandedString::Absent => refuse_state(path, name, b" is absent\n"),
+        ExpandedString::Cancelled => refuse_state(path, name, b" is cancelled\n"),
+        ExpandedString::Expansion(answer) => say_expansion(path, &out, answer, is_verbose),
     }
 }
 
@@ -162,11 +133,13 @@ fn expand_named(
     if !ti_common::refusal::accept(path, file) {
         return Status::Refused;
     }
-    match lookup::find(name, FIRST_EDITION) {
-        Found::String(place) => expand_place(path, file, name, place, values, is_verbose),
-        Found::Boolean(_) => refuse(path, 11),
-        Found::Number(_) => refuse(path, 11),
-        Found::Unknown => refuse(path, 11),
+    let found = lookup::find(name, FIRST_EDITION);
+    let number = refusal_numbers::of_found_string(found);
+    match found {
+        Found::String(place) => expand_string(path, file, name, place, values, is_verbose),
+        Found::Boolean(_) => refuse(path, number),
+        Found::Number(_) => refuse(path, number),
+        Found::Unknown => refuse(path, number),
     }
 }
 

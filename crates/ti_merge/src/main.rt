@@ -1,9 +1,6 @@
-// Merges the compiled file that its first argument names over that of the second, to the file that the third names, in the first
-// edition and through the library only.
-// Proved: it is safe and ends; a refusal's number is that of entry/specs. Assumed: what libc and os say of C.
-ghost use mathlib.Core.Path.{_≡_};
-ghost use Rattle.base.specs.Answer.{numberOf};
-ghost use Rattle.entry.specs.Says.{saysMerged};
+// Merges the compiled file that its first argument names over that of the second, to the file that the third names,
+// in the first edition and through the library only. Proved: it is safe and ends; a refusal's number is that of
+// entry/specs. Assumed: what libc and os say of C.
 use edition::Edition;
 use entry::FILE_MOST;
 use entry::Merged;
@@ -15,23 +12,11 @@ use ti_common::refusal::refuse;
 // The edition that the program merges in.
 const EDITION: Edition = names::FIRST_EDITION;
 
-// Document 01's number of the refusal; 0 where there is a file.
-fn number_of(answer: Merged) -> usize
-    ensures { λ r. ⌜ r ≡ numberOf (saysMerged answer) ⌝ }
-{
-    match answer {
-        Merged::File(_) => 0,
-        Merged::Refused(why) => ti_common::refusal::file_number(why),
-        Merged::Size => 9,
-        Merged::Room(_) => 8,
-    }
-}
-
 // Merges two accepted files and saves the file, or says why not.
 fn merge_to(out: &[u8], first: &[u8], second: &[u8]) -> Status {
     let mut file = [0u8; FILE_MOST];
     let answer = merge::merge(first, second, EDITION, &mut file);
-    let number = number_of(answer);
+    let number = refusal_numbers::of_merged(answer);
     match answer {
         Merged::File(n) => {
             let k = ti_common::part(n, &file);
@@ -39,7 +24,7 @@ fn merge_to(out: &[u8], first: &[u8], second: &[u8]) -> Status {
         }
         Merged::Refused(_) => refuse(out, number),
         Merged::Size => refuse(out, number),
-        Merged::Room(n) => ti_common::refusal::refuse_room(out, n),
+        Merged::Room(n) => ti_common::refusal::refuse_room(out, number, n),
     }
 }
 

@@ -1,6 +1,6 @@
-// Shows the compiled file that its argument names, through the library only: its names, each capability that is not absent, a line
-// each, in list order, and how many slots lie beyond the first edition.
-// Proved: it is safe and ends; each line is the one of specs/Lines.antt. Assumed: what libc and os say of C.
+// Shows the compiled file that its argument names, through the library only: its names, each capability that is not
+// absent, a line each, in list order, and how many slots lie beyond the first edition. Proved: it is safe and ends;
+// each line is the one of specs/Lines.antt. Assumed: what libc and os say of C.
 ghost use Prim.Native.Nat.{_≤_};
 ghost use lib.ListN.{length};
 ghost use Rattle.show_lines.specs.Lines.{fileRoom};

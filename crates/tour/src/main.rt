@@ -1,9 +1,11 @@
-// A tour of crate `terminfo`: opens the compiled entry on standard input in the first edition, asks it for its names, its lines and its string
-// cup, expands cup at row 3, column 12, and prints what it got. `visit` holds an entry and lends variables: it is proved by a walk.
+// A tour of crate `terminfo`: opens the compiled entry on standard input in the first edition, asks it for its names,
+// its lines and its string cup, expands cup at row 3, column 12, and prints what it got. `visit` holds an entry and
+// lends variables: it is proved by a walk.
 // Proved: it is safe and ends. Assumed: what libc says of C.
 use edition::Edition;
 use edition::Place;
 use entry::NumberState;
+use entry::StringState;
 use expansion::Expansion;
 use libc::STDIN_FILENO;
 use libc::STDOUT_FILENO;
@@ -30,6 +32,16 @@ fn say_lines(lines: NumberState) {
     }
 }
 
+// Says why there is no cup to expand, where there is none.
+fn say_missing(cup: StringState) {
+    match cup {
+        StringState::Present(_) => {}
+        StringState::Absent => say(b"cup is absent"),
+        StringState::Cancelled => say(b"cup is cancelled"),
+        StringState::Refused => say(b"cup can't be asked for"),
+    }
+}
+
 fn say_expansion(out: &[u8], answer: Expansion) {
     if let Expansion::Done { length, steps } = answer {
         if length <= out.len() {
@@ -42,11 +54,19 @@ fn say_expansion(out: &[u8], answer: Expansion) {
 // Opens, asks, expands into out.
 fn visit(file: &[u8], out: &mut [u8]) -> Expansion {
     let entry = terminfo::open(file, FIRST);
-    say(terminfo::names_part(entry));
+    let names = terminfo::names_part(entry);
+    say(names.bytes);
     say_lines(terminfo::number(entry, Place(2)));
     let cup = terminfo::string_part(entry, Place(10));
+    say_missing(cup.state);
     let mut lasting = terminfo::zero_lasting();
-    terminfo::expand(cup, [3, 12, 0, 0, 0, 0, 0, 0, 0], &mut lasting, out, 0)
+    terminfo::expand(
+        cup.bytes,
+        [3, 12, 0, 0, 0, 0, 0, 0, 0],
+        &mut lasting,
+        out,
+        0,
+    )
 }
 
 fn main() {

@@ -5,4 +5,5 @@ use lib.IntN.{ℤ}
 use Rattle.expansion.specs.Machine.{Value, Machine}
 
 abbrev pub machine : List Value → List ℤ → List ℤ → List ℤ → Machine
-machine stack arguments locals lasting = record { stack = stack; arguments = arguments; locals = locals; lasting = lasting }
+machine stack arguments locals lasting =
+    record { stack = stack; arguments = arguments; locals = locals; lasting = lasting }

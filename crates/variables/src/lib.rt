@@ -1,5 +1,5 @@
-// The variables a to z and A to Z, and the arguments that `%i` changes (document 01: Expansion). Proved: each function is its definition of
-// expansion/specs. Assumed: nothing.
+// The variables a to z and A to Z, and the arguments that `%i` changes (document 01: Expansion). Proved: each
+// function is its definition of expansion/specs. Assumed: nothing.
 ghost use mathlib.Core.Path.{_≡_};
 ghost use mathlib.Core.List.{List};
 ghost use Prim.Native.Nat.{_-_};
@@ -33,7 +33,8 @@ fn set_value(values: &mut [i32], k: usize, v: i32)
 
 // `%g`
 pub fn load(locals: &[i32; 26], lasting: &[i32; 26], c: u8) -> i32
-    ensures { λ r. ⌜ ((stack : List Value) (arguments : List ℤ) → r ≡ loaded (machine stack arguments (now (locals .entry)) (now (lasting .entry))) c) ⌝ }
+    ensures { λ r. ⌜ ((stack : List Value) (arguments : List ℤ)
+        → r ≡ loaded (machine stack arguments (now (locals .entry)) (now (lasting .entry))) c) ⌝ }
 {
     if c <= b'Z' {
         value_at(lasting, letter_place(c, b'A'))
@@ -44,7 +45,9 @@ pub fn load(locals: &[i32; 26], lasting: &[i32; 26], c: u8) -> i32
 
 // `%P`
 pub fn store(locals: &mut [i32; 26], lasting: &mut [i32; 26], c: u8, v: i32)
-    ensures { λ _. ⌜ ((stack : List Value) (arguments : List ℤ) → machine stack arguments (now (locals .exit)) (now (lasting .exit)) ≡ stored (machine stack arguments (now (locals .entry)) (now (lasting .entry))) c v) ⌝ }
+    ensures { λ _. ⌜ ((stack : List Value) (arguments : List ℤ)
+        → machine stack arguments (now (locals .exit)) (now (lasting .exit)) ≡ stored
+        (machine stack arguments (now (locals .entry)) (now (lasting .entry))) c v) ⌝ }
 {
     if c <= b'Z' {
         set_value(lasting, letter_place(c, b'A'), v);

@@ -7,7 +7,7 @@ use Rattle.edition.specs.declared.Edition.{Edition}
 use Rattle.base.specs.Answer.{Answer, refused, gives}
 use Rattle.entry.specs.Reading.{Entry}
 use Rattle.entry.specs.Writing.{Handed}
-use Rattle.text.specs.Describing.{fieldsFrom}
+use Rattle.text.specs.Describing.{describedFrom}
 use Rattle.text.specs.Compiling.{textNumber}
 use Rattle.walk_fields.specs.declared.Walked.{Walked}
 use Rattle.walk_fields.specs.declared.Walked.the-variants as W
@@ -21,4 +21,5 @@ walkedAs x (W.Refused why p) = refused (textNumber why) (p ∷ [])
 -- the fields from a place on, under whatever names
 pub record Walks (e : Edition) (at : ℕ) (before after : List ℕ → Handed) (r : Walked) : Type 0 where
   pub holds : Holds e (after [])
-  pub entry : (n : List ℕ) → fieldsFrom e (before [] .lent) (record { at = at; entry = textEntry e (before n) }) ≡ walkedAs (textEntry e (after n)) r
+  pub entry : (n : List ℕ)
+      → describedFrom e (before [] .lent) at (textEntry e (before n)) ≡ walkedAs (textEntry e (after n)) r

@@ -1,5 +1,5 @@
-// The fields of a text, one after the other, up to its end or the first bad one (document 01: Source text). Proved: `walk` comes to what
-// `fieldsFrom` of text/specs gives. Assumed: nothing.
+// The fields of a text, one after the other, up to its end or the first bad one (document 01: Source text). Proved:
+// `walk` comes to what `describedFrom` of text/specs gives. Assumed: nothing.
 ghost use mathlib.Core.List.{[]};
 ghost use Rattle.entry.specs.Handed.{handed};
 ghost use Rattle.compile_laws.specs.Held.{Holds};
@@ -28,8 +28,13 @@ pub fn walk(
     string_starts: &mut [usize],
     string_lengths: &mut [usize],
 ) -> Walked
-    requires { ⌜ Holds edition (handed [] (now «boolean_kinds») (now «number_kinds») (now «number_values») (now «string_kinds») (now «string_starts») (now «string_lengths») (now text)) ⌝ }
-    ensures { λ r. ⌜ Walks edition at (λ n. handed n (now («boolean_kinds» .entry)) (now («number_kinds» .entry)) (now («number_values» .entry)) (now («string_kinds» .entry)) (now («string_starts» .entry)) (now («string_lengths» .entry)) (now (text .entry))) (λ n. handed n (now («boolean_kinds» .exit)) (now («number_kinds» .exit)) (now («number_values» .exit)) (now («string_kinds» .exit)) (now («string_starts» .exit)) (now («string_lengths» .exit)) (now (text .entry))) r ⌝ }
+    requires { ⌜ Holds edition (handed [] (now «boolean_kinds») (now «number_kinds») (now «number_values»)
+        (now «string_kinds») (now «string_starts») (now «string_lengths») (now text)) ⌝ }
+    ensures { λ r. ⌜ Walks edition at (λ n. handed n (now («boolean_kinds» .entry)) (now («number_kinds» .entry))
+        (now («number_values» .entry)) (now («string_kinds» .entry)) (now («string_starts» .entry))
+        (now («string_lengths» .entry)) (now (text .entry))) (λ n. handed n (now («boolean_kinds» .exit))
+        (now («number_kinds» .exit)) (now («number_values» .exit)) (now («string_kinds» .exit))
+        (now («string_starts» .exit)) (now («string_lengths» .exit)) (now (text .entry))) r ⌝ }
 {
     let mut i = at;
     loop {

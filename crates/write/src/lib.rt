@@ -1,5 +1,5 @@
-// Writes compiled entries (document 01: Compiled entry, order of writing). Proved: `write` answers every edition and every slice as
-// `writing` of entry/specs says, and a refusal leaves the buffer as it was. Assumed: nothing.
+// Writes compiled entries (document 01: Compiled entry, order of writing). Proved: `write` answers every edition and
+// every slice as `writing` of entry/specs says, and a refusal leaves the buffer as it was. Assumed: nothing.
 ghost use mathlib.Core.Path.{_≡_};
 ghost use lib.ListN.{length};
 ghost use Rattle.base.specs.Answer.{Leaves};
@@ -11,8 +11,8 @@ use edition::Edition;
 use entry::FILE_MOST;
 use entry::Written;
 
-// Writes what is handed over, if its states are within the limits and the file fits. There are states enough, the names fit, and
-// the strings lie in what is lent.
+// Writes what is handed over, if its states are within the limits and the file fits. There are states enough, the
+// names fit, and the strings lie in what is lent.
 fn write_lent(
     edition: Edition,
     names: &[u8],
@@ -25,8 +25,12 @@ fn write_lent(
     lent: &[u8],
     buffer: &mut [u8],
 ) -> Written
-    requires { ⌜ Judged edition (handed (now names) (now «boolean_kinds») (now «number_kinds») (now «number_values») (now «string_kinds») (now «string_starts») (now «string_lengths») (now lent)) ⌝ }
-    ensures { λ r. ⌜ Wrote edition (handed (now (names .entry)) (now («boolean_kinds» .entry)) (now («number_kinds» .entry)) (now («number_values» .entry)) (now («string_kinds» .entry)) (now («string_starts» .entry)) (now («string_lengths» .entry)) (now (lent .entry))) (now (buffer .entry)) (now (buffer .exit)) (saysWritten r) ⌝ }
+    requires { ⌜ Judged edition (handed (now names) (now «boolean_kinds») (now «number_kinds») (now «number_values»)
+        (now «string_kinds») (now «string_starts») (now «string_lengths») (now lent)) ⌝ }
+    ensures { λ r. ⌜ Wrote edition (handed (now (names .entry)) (now («boolean_kinds» .entry))
+        (now («number_kinds» .entry)) (now («number_values» .entry)) (now («string_kinds» .entry))
+        (now («string_starts» .entry)) (now («string_lengths» .entry)) (now (lent .entry))) (now (buffer .entry))
+        (now (buffer .exit)) (saysWritten r) ⌝ }
 {
     if !write_limits::states_fit(
         edition,
@@ -65,8 +69,9 @@ fn write_lent(
     Written::File(size)
 }
 
-// Writes the entry handed over at the buffer's start, or refuses and leaves the buffer as it is. A list's states are given by
-// kinds, 0 absent, 1 present, 2 cancelled, and contents by place; a string is string_lengths bytes of lent from string_starts on.
+// Writes the entry handed over at the buffer's start, or refuses and leaves the buffer as it is. A list's states are
+// given by kinds, 0 absent, 1 present, 2 cancelled, and contents by place; a string is string_lengths bytes of lent
+// from string_starts on.
 pub fn write(
     edition: Edition,
     names: &[u8],
@@ -79,7 +84,11 @@ pub fn write(
     lent: &[u8],
     buffer: &mut [u8],
 ) -> Written
-    ensures { λ r. ⌜ Leaves (writing edition (handed (now (names .entry)) (now («boolean_kinds» .entry)) (now («number_kinds» .entry)) (now («number_values» .entry)) (now («string_kinds» .entry)) (now («string_starts» .entry)) (now («string_lengths» .entry)) (now (lent .entry))) (length (now (buffer .entry)))) (now (buffer .entry)) (now (buffer .exit)) (saysWritten r) ⌝ }
+    ensures { λ r. ⌜ Leaves (writing edition
+        (handed (now (names .entry)) (now («boolean_kinds» .entry)) (now («number_kinds» .entry))
+        (now («number_values» .entry)) (now («string_kinds» .entry)) (now («string_starts» .entry))
+        (now («string_lengths» .entry)) (now (lent .entry))) (length (now (buffer .entry)))) (now (buffer .entry))
+        (now (buffer .exit)) (saysWritten r) ⌝ }
 {
     if !write_limits::enough_states(
         edition,

@@ -1,5 +1,5 @@
-// The whole file put into a buffer, once it is known to fit (document 01: Compiled entry). Proved: `write_sure` puts `encode` of
-// entry/specs. Assumed: nothing.
+// The whole file put into a buffer, once it is known to fit (document 01: Compiled entry). Proved: `write_sure` puts
+// `encode` of entry/specs. Assumed: nothing.
 ghost use mathlib.Core.Path.{_≡_};
 ghost use mathlib.Core.List.{[], _++_};
 ghost use Prim.Native.Nat.{_+_, _<_, _≤_, _^_};
@@ -9,7 +9,8 @@ ghost use Rattle.entry.specs.Layout.{sizeOf, numbersAt, tableAt};
 ghost use Rattle.entry.specs.Writing.{encode, entryOf};
 ghost use Rattle.put.specs.Table.{total};
 ghost use Rattle.entry.specs.Handed.{handed, frontHanded};
-ghost use Rattle.write_laws.specs.File.{sizesWith, sizesHanded, head, slots, front, HeadFits, SlotsFit, FrontFits, Sure};
+ghost use Rattle.write_laws.specs.File.{sizesWith, sizesHanded, head, slots, front, HeadFits, SlotsFit, FrontFits};
+ghost use Rattle.write_laws.specs.File.{Sure};
 use edition::Edition;
 use entry::HEADER_SIZE;
 use entry::NUMBER_WIDTH;
@@ -31,8 +32,11 @@ pub fn sizes_with(e: Edition, names: &[u8], table: usize) -> Sizes
 
 // The header's sizes for what is handed over.
 pub fn sizes(e: Edition, names: &[u8], string_kinds: &[u8], string_lengths: &[usize]) -> Sizes
-    requires { ⌜ (e .strings ≤ length (now «string_kinds»)) × ((e .strings ≤ length (now «string_lengths»)) × (total (now «string_kinds») (now «string_lengths») (e .strings) < 2 ^ 64)) ⌝ }
-    ensures { λ r. ⌜ r ≡ sizesHanded e (frontHanded (now (names .entry)) [] [] [] (now («string_kinds» .entry)) (now («string_lengths» .entry))) ⌝ }
+    requires { ⌜ (e .strings ≤ length (now «string_kinds»))
+        × ((e .strings ≤ length (now «string_lengths»))
+        × (total (now «string_kinds») (now «string_lengths») (e .strings) < 2 ^ 64)) ⌝ }
+    ensures { λ r. ⌜ r ≡ sizesHanded e (frontHanded (now (names .entry)) [] [] [] (now («string_kinds» .entry))
+        (now («string_lengths» .entry))) ⌝ }
 {
     let table = put::table_size(string_kinds, string_lengths, e.strings);
     sizes_with(e, names, table)
@@ -65,7 +69,8 @@ pub fn file_size(s: Sizes) -> usize
 // The header, the names, the booleans and the pad byte.
 fn put_head(b: &mut [u8], s: Sizes, names: &[u8], boolean_kinds: &[u8])
     requires { ⌜ HeadFits (now b) s (frontHanded (now names) (now «boolean_kinds») [] [] [] []) ⌝ }
-    ensures { λ _. ⌜ now (b .exit) ≡ putAt (now (b .entry)) 0 (head s (frontHanded (now (names .entry)) (now («boolean_kinds» .entry)) [] [] [] [])) ⌝ }
+    ensures { λ _. ⌜ now (b .exit) ≡ putAt (now (b .entry)) 0
+        (head s (frontHanded (now (names .entry)) (now («boolean_kinds» .entry)) [] [] [] [])) ⌝ }
 {
     put::put_header(b, s);
     put::put_string(b, HEADER_SIZE, names);
@@ -84,8 +89,11 @@ fn put_slots(
     string_kinds: &[u8],
     string_lengths: &[usize],
 )
-    requires { ⌜ SlotsFit (now b) at s (frontHanded [] [] (now «number_kinds») (now «number_values») (now «string_kinds») (now «string_lengths»)) ⌝ }
-    ensures { λ _. ⌜ now (b .exit) ≡ putAt (now (b .entry)) at (slots s (frontHanded [] [] (now («number_kinds» .entry)) (now («number_values» .entry)) (now («string_kinds» .entry)) (now («string_lengths» .entry)))) ⌝ }
+    requires { ⌜ SlotsFit (now b) at s
+        (frontHanded [] [] (now «number_kinds») (now «number_values») (now «string_kinds») (now «string_lengths»)) ⌝ }
+    ensures { λ _. ⌜ now (b .exit) ≡ putAt (now (b .entry)) at
+        (slots s (frontHanded [] [] (now («number_kinds» .entry)) (now («number_values» .entry))
+        (now («string_kinds» .entry)) (now («string_lengths» .entry)))) ⌝ }
 {
     put::put_numbers(b, at, number_kinds, number_values, s.numbers);
     put::put_slots(
@@ -108,8 +116,12 @@ pub fn put_front(
     string_kinds: &[u8],
     string_lengths: &[usize],
 )
-    requires { ⌜ FrontFits (now b) s (frontHanded (now names) (now «boolean_kinds») (now «number_kinds») (now «number_values») (now «string_kinds») (now «string_lengths»)) ⌝ }
-    ensures { λ _. ⌜ now (b .exit) ≡ putAt (now (b .entry)) 0 (front s (frontHanded (now (names .entry)) (now («boolean_kinds» .entry)) (now («number_kinds» .entry)) (now («number_values» .entry)) (now («string_kinds» .entry)) (now («string_lengths» .entry)))) ⌝ }
+    requires { ⌜ FrontFits (now b) s
+        (frontHanded (now names) (now «boolean_kinds») (now «number_kinds») (now «number_values») (now «string_kinds»)
+        (now «string_lengths»)) ⌝ }
+    ensures { λ _. ⌜ now (b .exit) ≡ putAt (now (b .entry)) 0
+        (front s (frontHanded (now (names .entry)) (now («boolean_kinds» .entry)) (now («number_kinds» .entry))
+        (now («number_values» .entry)) (now («string_kinds» .entry)) (now («string_lengths» .entry)))) ⌝ }
 {
     put_head(b, s, names, boolean_kinds);
     put_slots(
@@ -138,8 +150,13 @@ pub fn write_sure(
     first: &[u8],
     second: &[u8],
 )
-    requires { ⌜ Sure (now b) s e (handed (now names) (now «boolean_kinds») (now «number_kinds») (now «number_values») (now «string_kinds») (now «string_starts») (now «string_lengths») (now first ++ now second)) (now first) (now second) ⌝ }
-    ensures { λ _. ⌜ now (b .exit) ≡ putAt (now (b .entry)) 0 (encode (entryOf e (handed (now (names .entry)) (now («boolean_kinds» .entry)) (now («number_kinds» .entry)) (now («number_values» .entry)) (now («string_kinds» .entry)) (now («string_starts» .entry)) (now («string_lengths» .entry)) (now (first .entry) ++ now (second .entry))))) ⌝ }
+    requires { ⌜ Sure (now b) s e
+        (handed (now names) (now «boolean_kinds») (now «number_kinds») (now «number_values») (now «string_kinds»)
+        (now «string_starts») (now «string_lengths») (now first ++ now second)) (now first) (now second) ⌝ }
+    ensures { λ _. ⌜ now (b .exit) ≡ putAt (now (b .entry)) 0
+        (encode (entryOf e (handed (now (names .entry)) (now («boolean_kinds» .entry)) (now («number_kinds» .entry))
+        (now («number_values» .entry)) (now («string_kinds» .entry)) (now («string_starts» .entry))
+        (now («string_lengths» .entry)) (now (first .entry) ++ now (second .entry))))) ⌝ }
 {
     put_front(
         b,

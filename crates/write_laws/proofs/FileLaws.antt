@@ -5,8 +5,10 @@ use mathlib.Core.List.{List, [], _∷_, _++_, map, append-assoc}
 use Prim.Native.Nat.{ℕ, _+_, _*_, _≤_}
 use native.Mathlib.Omega.{arith}
 use lib.ListN.{length, length-append}
-use Rattle.base.specs.Tabulate.{tabulate, length-tabulate}
-use Rattle.base.specs.Overwrite.{putAt, put-run}
+use Rattle.base.specs.Tabulate.{tabulate}
+use Rattle.base.proofs.TabulateLaws.{length-tabulate}
+use Rattle.base.specs.Overwrite.{putAt}
+use Rattle.base.proofs.OverwriteLaws.{put-run}
 use Rattle.word.specs.Word.{words}
 use Rattle.word.proofs.WordLaws.{length-words}
 use Rattle.edition.specs.declared.Edition.{Edition}
@@ -17,7 +19,7 @@ use Rattle.entry.specs.State.{State, booleanCode}
 use Rattle.entry.specs.Layout.{padOf, booleansAt, numbersAt, tableAt, sizeOf}
 use Rattle.entry.specs.Writing.{Handed, header, padding, numberCode, offsetCode, stringTable, sizesFor, encode}
 use Rattle.entry_laws.specs.Parts.{length-padding, length-encode, beforeTable, at-table}
-use Rattle.put.specs.Table.{booleansOf, numbersOf, slotsOf, Described}
+use Rattle.put.specs.Table.{booleansOf, numbersOf, slotsOf, HasLengths}
 use Rattle.put.proofs.TableLaws.{table-total, offsets-total, length-codes, length-shorts}
 use Rattle.entry.specs.Handed.{frontHanded}
 use Rattle.write_laws.specs.File.{sizesHanded, entryWith, head, slots, front, FrontFits, Sure}
@@ -31,7 +33,7 @@ frontOf s os e h =
     ++ words numberWidth (map numberCode (numbersOf (h .numberKinds) (h .numberValues) (e .numbers))))
     ++ words offsetWidth (map offsetCode os)
 
-module _ (e : Edition) (h : Handed) (g : ℕ → State (List ℕ)) (d : Described (h .stringKinds) (h .stringLengths) g (e .strings)) where
+module _ (e : Edition) (h : Handed) (g : ℕ → State (List ℕ)) (d : HasLengths (h .stringKinds) (h .stringLengths) g (e .strings)) where
   pub sizes-with : sizesFor (entryWith e h g) ≡ sizesHanded e h
   unfolding sizesFor
   sizes-with =
@@ -124,7 +126,7 @@ slots-put s h b₀ b₁ b₂ at r e₁ e₂ =
     e₂ ∙ put-run b₀ b₁ at (at + numberWidth * s .numbers) n o (n ++ o) e₁ (omega arith) refl (omega arith)
 
 -- the front and the string table are the file
-pub file-put : (e : Edition) (h : Handed) (g : ℕ → State (List ℕ)) → Described (h .stringKinds) (h .stringLengths) g (e .strings) → (b₀ b₁ b₂ : List ℕ) {q : ℕ} {s : Sizes}
+pub file-put : (e : Edition) (h : Handed) (g : ℕ → State (List ℕ)) → HasLengths (h .stringKinds) (h .stringLengths) g (e .strings) → (b₀ b₁ b₂ : List ℕ) {q : ℕ} {s : Sizes}
     → s ≡ sizesHanded e h → sizeOf (sizesHanded e h) ≤ length b₀ → q ≡ tableAt s → b₁ ≡ putAt b₀ 0 (front s h) → b₂ ≡ putAt b₁ q (stringTable (tabulate g (e .strings)))
     → b₂ ≡ putAt b₀ 0 (encode (entryWith e h g))
 file-put e h g d b₀ b₁ b₂ {q} {s} u r w e₁ e₂ =

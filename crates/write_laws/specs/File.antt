@@ -18,7 +18,14 @@ use Rattle.put.specs.Table.{booleansOf, numbersOf, slotsOf, total, AllInPools}
 -- the header's sizes, with a string table of so many bytes
 abbrev pub sizesWith : Edition → (names : List ℕ) → (table : ℕ) → Sizes
 sizesWith e names table =
-    record { names = length names + 1; booleans = e .booleans; numbers = e .numbers; strings = e .strings; table = table }
+    record {
+      names = length names + 1;
+      booleans = e .booleans;
+      numbers = e .numbers;
+      strings = e .strings;
+      table
+          = table;
+    }
 
 -- the header's sizes, from kinds and lengths alone
 abbrev pub sizesHanded : Edition → Handed → Sizes
@@ -36,7 +43,9 @@ entryWith e h g =
 
 -- the header, the names, the booleans and the pad byte
 unfoldable pub head : Sizes → Handed → List ℕ
-head s h = ((words shortWidth (header s) ++ (h .names ++ (0 ∷ []))) ++ map booleanCode (booleansOf (h .booleanKinds) (s .booleans))) ++ padding (padOf s)
+head s h =
+    ((words shortWidth (header s) ++ (h .names ++ (0 ∷ [])))
+    ++ map booleanCode (booleansOf (h .booleanKinds) (s .booleans))) ++ padding (padOf s)
 
 -- the slots of the numbers and of the strings
 unfoldable pub slots : Sizes → Handed → List ℕ
@@ -83,8 +92,8 @@ pub record Given (e : Edition) (h : Handed) : Type 0 where
   pub stringStarts : e .strings ≤ length (h .stringStarts)
   pub stringLengths : e .strings ≤ length (h .stringLengths)
 
--- s are the file's sizes, the states are given, the strings lie in the two lent slices, and the file is no longer than a file may
--- be and than the buffer; contents may have any length
+-- s are the file's sizes, the states are given, the strings lie in the two lent slices, and the file is no longer
+-- than a file may be and than the buffer; contents may have any length
 pub record Sure (b : List ℕ) (s : Sizes) (e : Edition) (h : Handed) (first second : List ℕ) : Type 0 where
   pub sized : s ≡ sizesHanded e h
   pub given : Given e h

@@ -1,5 +1,5 @@
-// Judges what is handed to the writer (document 01: Compiled entry). Each loop gives the first place that fails, or the number of places.
-// Proved: each function is its definition of entry/specs. Assumed: nothing.
+// Judges what is handed to the writer (document 01: Compiled entry). Each loop gives the first place that fails, or
+// the number of places. Proved: each function is its definition of entry/specs. Assumed: nothing.
 ghost use mathlib.Core.Path.{_≡_};
 ghost use mathlib.Core.Bool.{true, _&&_, _||_, not};
 ghost use mathlib.Core.List.{[]};
@@ -8,7 +8,8 @@ ghost use lib.Dec.{eqb, leb};
 ghost use lib.ListN.{length};
 ghost use Rattle.base.specs.Scan.{scan, every};
 ghost use Rattle.word.specs.Nul.{nulFrom};
-ghost use Rattle.entry.specs.Writing.{stateOf, isKind, enoughStates, namesFit, isLent, numberFits, contentFits, booleanFitsAt, numberFitsAt, stringFitsAt, statesFit};
+ghost use Rattle.entry.specs.Writing.{stateOf, isKind, enoughStates, namesFit, isLent, numberFits, contentFits};
+ghost use Rattle.entry.specs.Writing.{booleanFitsAt, numberFitsAt, stringFitsAt, statesFit};
 ghost use Rattle.put.specs.Table.{stringOf};
 ghost use Rattle.entry.specs.Handed.{booleansHanded, numbersHanded, stringsHanded, statesHanded};
 use edition::Edition;
@@ -38,7 +39,9 @@ pub fn enough_states(
     string_starts: &[usize],
     string_lengths: &[usize],
 ) -> bool
-    ensures { λ r. ⌜ r ≡ enoughStates e (statesHanded (now («boolean_kinds» .entry)) (now («number_kinds» .entry)) (now («number_values» .entry)) (now («string_kinds» .entry)) (now («string_starts» .entry)) (now («string_lengths» .entry)) []) ⌝ }
+    ensures { λ r. ⌜ r ≡ enoughStates e
+        (statesHanded (now («boolean_kinds» .entry)) (now («number_kinds» .entry)) (now («number_values» .entry))
+        (now («string_kinds» .entry)) (now («string_starts» .entry)) (now («string_lengths» .entry)) []) ⌝ }
 {
     if !edition::edition_ok(e) {
         return false;
@@ -98,7 +101,8 @@ pub fn find_not_lent(
     n: usize,
 ) -> usize
     requires { ⌜ (n ≤ length (now kinds)) × ((n ≤ length (now starts)) × (n ≤ length (now lengths))) ⌝ }
-    ensures { λ r. ⌜ r ≡ scan (isLent (stringsHanded (now (kinds .entry)) (now (starts .entry)) (now (lengths .entry)) (now (lent .entry)))) 0 n ⌝ }
+    ensures { λ r. ⌜ r ≡ scan (isLent
+        (stringsHanded (now (kinds .entry)) (now (starts .entry)) (now (lengths .entry)) (now (lent .entry)))) 0 n ⌝ }
 {
     let most = lent.len();
     let mut i = 0;
@@ -178,8 +182,11 @@ fn find_string_past(
     lent: &[u8],
     n: usize,
 ) -> usize
-    requires { ⌜ (n ≤ length (now kinds)) × ((n ≤ length (now starts)) × ((n ≤ length (now lengths)) × (every (isLent (stringsHanded (now kinds) (now starts) (now lengths) (now lent))) n ≡ true))) ⌝ }
-    ensures { λ r. ⌜ r ≡ scan (stringFitsAt (stringsHanded (now (kinds .entry)) (now (starts .entry)) (now (lengths .entry)) (now (lent .entry)))) 0 n ⌝ }
+    requires { ⌜ (n ≤ length (now kinds)) × ((n ≤ length (now starts))
+        × ((n ≤ length (now lengths)) × (every
+        (isLent (stringsHanded (now kinds) (now starts) (now lengths) (now lent))) n ≡ true))) ⌝ }
+    ensures { λ r. ⌜ r ≡ scan (stringFitsAt
+        (stringsHanded (now (kinds .entry)) (now (starts .entry)) (now (lengths .entry)) (now (lent .entry)))) 0 n ⌝ }
 {
     let mut i = 0;
     while i < n {
@@ -202,8 +209,14 @@ pub fn states_fit(
     string_lengths: &[usize],
     lent: &[u8],
 ) -> bool
-    requires { ⌜ (enoughStates e (statesHanded (now «boolean_kinds») (now «number_kinds») (now «number_values») (now «string_kinds») (now «string_starts») (now «string_lengths») (now lent)) ≡ true) × (every (isLent (stringsHanded (now «string_kinds») (now «string_starts») (now «string_lengths») (now lent))) (e .strings) ≡ true) ⌝ }
-    ensures { λ r. ⌜ r ≡ statesFit e (statesHanded (now («boolean_kinds» .entry)) (now («number_kinds» .entry)) (now («number_values» .entry)) (now («string_kinds» .entry)) (now («string_starts» .entry)) (now («string_lengths» .entry)) (now (lent .entry))) ⌝ }
+    requires { ⌜ (enoughStates e (statesHanded (now «boolean_kinds») (now «number_kinds») (now «number_values»)
+        (now «string_kinds») (now «string_starts») (now «string_lengths») (now lent)) ≡ true)
+        × (every (isLent (stringsHanded (now «string_kinds») (now «string_starts») (now «string_lengths») (now lent)))
+        (e .strings) ≡ true) ⌝ }
+    ensures { λ r. ⌜ r ≡ statesFit e
+        (statesHanded (now («boolean_kinds» .entry)) (now («number_kinds» .entry)) (now («number_values» .entry))
+        (now («string_kinds» .entry)) (now («string_starts» .entry)) (now («string_lengths» .entry))
+        (now (lent .entry))) ⌝ }
 {
     if find_boolean_past(boolean_kinds, e.booleans) != e.booleans {
         return false;

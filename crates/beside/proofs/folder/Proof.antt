@@ -7,7 +7,7 @@ use mathlib.Core.Path.{_≡_, sym, _∙_}
 use mathlib.Core.Logic.{inl, inr}
 use denote.Ref.{now}
 use borrow.Author.Needs.{needs}
-use Rattle.shown.specs.Puts.{counted}
+use Rattle.shown.proofs.PutsLaws.{counted}
 use Rattle.beside.proofs.Laws.{Folder, folder-start, folder-slash, folder-other}
 use Rattle.beside.proofs.folder.Statement.{statement}
 use Rattle.beside.proofs.folder.Tie as tie

@@ -1,4 +1,5 @@
 -- `c_numbers::boolean_number` meets its contract, case by case.
+-- Assumes nothing.
 use Rattle.c_numbers.specs.Numbers.{numbered, stateCode}
 use borrow.Author.Needs.{needs}
 use Rattle.c_numbers.proofs.boolean_number.Statement.{statement}
@@ -19,8 +20,11 @@ mul-result c = search needs
 enum-told-4 : tie.Need-enum-told-4
 enum-told-4 c = search needs
 
-mul-result-2 : tie.Need-mul-result-2
-mul-result-2 c = search needs
+of-boolean-requires : tie.Need-of-boolean-requires
+of-boolean-requires c κs = search needs
+
+top-requires : tie.Need-top-requires
+top-requires c κs = search needs
 
 returns : tie.Need-returns
 unfolding numbered stateCode
@@ -36,7 +40,7 @@ returns-3 c = rw (c .enum-told3 .given .1)
 
 returns-4 : tie.Need-returns-4
 unfolding numbered stateCode
-returns-4 c = rw (c .enum-told4 .given .1)
+returns-4 c = rw (c .top .ensures, c .before .of-boolean .ensures, c .before .before .enum-told4 .given .1)
 
 pub boolean-number-spec : {M : Type 1} → statement M
 boolean-number-spec =
@@ -47,7 +51,8 @@ boolean-number-spec =
     enum-told-3
     mul-result
     enum-told-4
-    mul-result-2
+    of-boolean-requires
+    top-requires
     returns
     returns-2
     returns-3

@@ -1,15 +1,20 @@
 -- `c_numbers::compiled_number` meets its contract, case by case.
 -- Assumes nothing.
-use mathlib.Core.Path.{subst, ap}
+use mathlib.Core.Path.{subst}
 use native.Mathlib.Omega.{arith}
-use borrow.Author.Needs.{needs}
-use Rattle.base.specs.Answer.{Answer}
 use Rattle.text.specs.declared.Compiled.{Compiled}
 use Rattle.text.specs.Compiling.{saysCompiled}
 use Rattle.text_laws.specs.Values.{Bounded}
 use Rattle.c_numbers.specs.Numbers.{numbered}
+use borrow.Author.Needs.{needs}
 use Rattle.c_numbers.proofs.compiled_number.Statement.{statement}
 use Rattle.c_numbers.proofs.compiled_number.Tie as tie
+
+of-compiled-requires : tie.Need-of-compiled-requires
+of-compiled-requires c κs = search needs
+
+top-requires : tie.Need-top-requires
+top-requires c κs = search needs
 
 enum-known-c : tie.Need-enum-known-c
 enum-known-c c = search needs
@@ -20,35 +25,22 @@ enum-told c = search needs
 enum-known-c-2 : tie.Need-enum-known-c-2
 enum-known-c-2 c = search needs
 
-text-number-requires : tie.Need-text-number-requires
-text-number-requires c κs = search needs
-
-mul-result : tie.Need-mul-result
-mul-result c =
-    let h = c .text-number .ensures .1 in
-    omega arith
-
 add-result : tie.Need-add-result
 add-result c =
-    let h = subst (λ (x : Compiled). Bounded (saysCompiled x)) (c .before .before .c2 .given .1) (c .before .before .before .before .pre) in
-    let k = c .text-number .ensures .1 in
+    let h = subst (λ (x : Compiled). Bounded (saysCompiled x)) (c .before .c2 .given .1)
+    (c .before .before .before .before .before .pre) in
     omega arith
 
 enum-told-2 : tie.Need-enum-told-2
 enum-told-2 c = search needs
 
-mul-result-2 : tie.Need-mul-result-2
-mul-result-2 c = search needs
-
 enum-known-c-3 : tie.Need-enum-known-c-3
 enum-known-c-3 c = search needs
 
-mul-result-3 : tie.Need-mul-result-3
-mul-result-3 c = search needs
-
 add-result-2 : tie.Need-add-result-2
 add-result-2 c =
-    let h = subst (λ (x : Compiled). Bounded (saysCompiled x)) (c .before .c3 .given .1) (c .before .before .before .pre) in
+    let h = subst (λ (x : Compiled). Bounded (saysCompiled x)) (c .before .c3 .given .1)
+    (c .before .before .before .before .before .pre) in
     omega arith
 
 returns : tie.Need-returns
@@ -57,34 +49,52 @@ returns c = rw (c .before .c .given .1)
 
 returns-2 : tie.Need-returns-2
 unfolding numbered
-returns-2 c = rw (c .enum-told .given .1)
+returns-2 c =
+    rw (
+      c .before .before .top .ensures,
+      c .before .before .before .of-compiled .ensures,
+      c .enum-told .given .1,
+    )
 
 returns-3 : tie.Need-returns-3
 unfolding numbered
-returns-3 c = rw (c .before .before .c2 .given .1, c .text-number .ensures .0)
+returns-3 c =
+    rw (
+      c .before .before .before .top .ensures,
+      c .before .before .before .before .of-compiled .ensures,
+      c .before .c2 .given .1,
+    )
 
 returns-4 : tie.Need-returns-4
 unfolding numbered
-returns-4 c = rw (c .enum-told2 .given .1)
+returns-4 c =
+    rw (
+      c .before .before .top .ensures,
+      c .before .before .before .of-compiled .ensures,
+      c .enum-told2 .given .1,
+    )
 
 returns-5 : tie.Need-returns-5
 unfolding numbered
-returns-5 c = rw (c .before .c3 .given .1)
+returns-5 c =
+    rw (
+      c .before .before .before .top .ensures,
+      c .before .before .before .before .of-compiled .ensures,
+      c .before .c3 .given .1,
+    )
 
 pub compiled-number-spec : {M : Type 1} → statement M
 compiled-number-spec =
     tie.close
     (tie.spec
+    of-compiled-requires
+    top-requires
     enum-known-c
     enum-told
     enum-known-c-2
-    text-number-requires
-    mul-result
     add-result
     enum-told-2
-    mul-result-2
     enum-known-c-3
-    mul-result-3
     add-result-2
     returns
     returns-2

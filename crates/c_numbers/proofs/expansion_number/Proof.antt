@@ -1,8 +1,15 @@
 -- `c_numbers::expansion_number` meets its contract, case by case.
+-- Assumes nothing.
 use Rattle.c_numbers.specs.Numbers.{expansionNumber}
 use borrow.Author.Needs.{needs}
 use Rattle.c_numbers.proofs.expansion_number.Statement.{statement}
 use Rattle.c_numbers.proofs.expansion_number.Tie as tie
+
+of-expansion-requires : tie.Need-of-expansion-requires
+of-expansion-requires c κs = search needs
+
+top-requires : tie.Need-top-requires
+top-requires c κs = search needs
 
 enum-known-e : tie.Need-enum-known-e
 enum-known-e c = search needs
@@ -16,17 +23,11 @@ add-result c = search needs
 enum-told : tie.Need-enum-told
 enum-told c = search needs
 
-mul-result-2 : tie.Need-mul-result-2
-mul-result-2 c = search needs
-
 enum-told-2 : tie.Need-enum-told-2
 enum-told-2 c = search needs
 
 enum-known-e-2 : tie.Need-enum-known-e-2
 enum-known-e-2 c = search needs
-
-mul-result-3 : tie.Need-mul-result-3
-mul-result-3 c = search needs
 
 add-result-2 : tie.Need-add-result-2
 add-result-2 c = search needs
@@ -34,26 +35,17 @@ add-result-2 c = search needs
 enum-known-e-3 : tie.Need-enum-known-e-3
 enum-known-e-3 c = search needs
 
-mul-result-4 : tie.Need-mul-result-4
-mul-result-4 c = search needs
-
 add-result-3 : tie.Need-add-result-3
 add-result-3 c = search needs
 
 enum-known-e-4 : tie.Need-enum-known-e-4
 enum-known-e-4 c = search needs
 
-mul-result-5 : tie.Need-mul-result-5
-mul-result-5 c = search needs
-
 add-result-4 : tie.Need-add-result-4
 add-result-4 c = search needs
 
 enum-known-e-5 : tie.Need-enum-known-e-5
 enum-known-e-5 c = search needs
-
-mul-result-6 : tie.Need-mul-result-6
-mul-result-6 c = search needs
 
 add-result-5 : tie.Need-add-result-5
 add-result-5 c = search needs
@@ -64,49 +56,76 @@ returns c = rw (c .before .e .given .1)
 
 returns-2 : tie.Need-returns-2
 unfolding expansionNumber
-returns-2 c = rw (c .enum-told .given .1)
+returns-2 c =
+    rw (
+      c .before .before .top .ensures,
+      c .before .before .before .of-expansion .ensures,
+      c .enum-told .given .1,
+    )
 
 returns-3 : tie.Need-returns-3
 unfolding expansionNumber
-returns-3 c = rw (c .enum-told2 .given .1)
+returns-3 c =
+    rw (
+      c .before .before .top .ensures,
+      c .before .before .before .of-expansion .ensures,
+      c .enum-told2 .given .1,
+    )
 
 returns-4 : tie.Need-returns-4
 unfolding expansionNumber
-returns-4 c = rw (c .before .e2 .given .1)
+returns-4 c =
+    rw (
+      c .before .before .before .top .ensures,
+      c .before .before .before .before .of-expansion .ensures,
+      c .before .e2 .given .1,
+    )
 
 returns-5 : tie.Need-returns-5
 unfolding expansionNumber
-returns-5 c = rw (c .before .e3 .given .1)
+returns-5 c =
+    rw (
+      c .before .before .before .top .ensures,
+      c .before .before .before .before .of-expansion .ensures,
+      c .before .e3 .given .1,
+    )
 
 returns-6 : tie.Need-returns-6
 unfolding expansionNumber
-returns-6 c = rw (c .before .e4 .given .1)
+returns-6 c =
+    rw (
+      c .before .before .before .top .ensures,
+      c .before .before .before .before .of-expansion .ensures,
+      c .before .e4 .given .1,
+    )
 
 returns-7 : tie.Need-returns-7
 unfolding expansionNumber
-returns-7 c = rw (c .before .e5 .given .1)
+returns-7 c =
+    rw (
+      c .before .before .before .top .ensures,
+      c .before .before .before .before .of-expansion .ensures,
+      c .before .e5 .given .1,
+    )
 
 pub expansion-number-spec : {M : Type 1} → statement M
 expansion-number-spec =
     tie.close
     (tie.spec
+    of-expansion-requires
+    top-requires
     enum-known-e
     mul-result
     add-result
     enum-told
-    mul-result-2
     enum-told-2
     enum-known-e-2
-    mul-result-3
     add-result-2
     enum-known-e-3
-    mul-result-4
     add-result-3
     enum-known-e-4
-    mul-result-5
     add-result-4
     enum-known-e-5
-    mul-result-6
     add-result-5
     returns
     returns-2

@@ -1,4 +1,5 @@
 -- `c_numbers::names_number` meets its contract, case by case; a part of a file fits its bits.
+-- Assumes nothing.
 use mathlib.Core.Path.{subst}
 use native.Mathlib.Omega.{arith}
 use Rattle.c_numbers.specs.Numbers.{numbered, NamesWithin}
@@ -22,8 +23,11 @@ add-result c =
 enum-told : tie.Need-enum-told
 enum-told c = search needs
 
-mul-result-2 : tie.Need-mul-result-2
-mul-result-2 c = search needs
+of-names-requires : tie.Need-of-names-requires
+of-names-requires c κs = search needs
+
+top-requires : tie.Need-top-requires
+top-requires c κs = search needs
 
 returns : tie.Need-returns
 unfolding numbered
@@ -31,9 +35,17 @@ returns c = rw (c .before .n .given .1)
 
 returns-2 : tie.Need-returns-2
 unfolding numbered
-returns-2 c = rw (c .enum-told .given .1)
+returns-2 c = rw (c .top .ensures, c .before .of-names .ensures, c .before .before .enum-told .given .1)
 
 pub names-number-spec : {M : Type 1} → statement M
 names-number-spec =
     tie.close
-    (tie.spec enum-known-n mul-result add-result enum-told mul-result-2 returns returns-2)
+    (tie.spec
+    enum-known-n
+    mul-result
+    add-result
+    enum-told
+    of-names-requires
+    top-requires
+    returns
+    returns-2)

@@ -1,4 +1,5 @@
 -- `c_numbers::number_number` meets its contract, case by case.
+-- Assumes nothing.
 use Rattle.c_numbers.specs.Numbers.{numbered, stateCode}
 use borrow.Author.Needs.{needs}
 use Rattle.c_numbers.proofs.number_number.Statement.{statement}
@@ -25,8 +26,11 @@ mul-result c = search needs
 enum-told-3 : tie.Need-enum-told-3
 enum-told-3 c = search needs
 
-mul-result-2 : tie.Need-mul-result-2
-mul-result-2 c = search needs
+of-number-requires : tie.Need-of-number-requires
+of-number-requires c κs = search needs
+
+top-requires : tie.Need-top-requires
+top-requires c κs = search needs
 
 returns : tie.Need-returns
 unfolding numbered stateCode
@@ -42,7 +46,7 @@ returns-3 c = rw (c .enum-told2 .given .1)
 
 returns-4 : tie.Need-returns-4
 unfolding numbered stateCode
-returns-4 c = rw (c .enum-told3 .given .1)
+returns-4 c = rw (c .top .ensures, c .before .of-number .ensures, c .before .before .enum-told3 .given .1)
 
 pub number-number-spec : {M : Type 1} → statement M
 number-number-spec =
@@ -55,7 +59,8 @@ number-number-spec =
     enum-told-2
     mul-result
     enum-told-3
-    mul-result-2
+    of-number-requires
+    top-requires
     returns
     returns-2
     returns-3

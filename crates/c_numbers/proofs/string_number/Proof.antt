@@ -1,4 +1,5 @@
 -- `c_numbers::string_number` meets its contract, case by case; a part of a file fits its bits.
+-- Assumes nothing.
 use mathlib.Core.Path.{subst}
 use native.Mathlib.Omega.{arith}
 use Rattle.c_numbers.specs.Numbers.{numbered, stateCode, StringWithin}
@@ -36,8 +37,11 @@ mul-result-2 c = search needs
 enum-told-3 : tie.Need-enum-told-3
 enum-told-3 c = search needs
 
-mul-result-3 : tie.Need-mul-result-3
-mul-result-3 c = search needs
+of-string-requires : tie.Need-of-string-requires
+of-string-requires c κs = search needs
+
+top-requires : tie.Need-top-requires
+top-requires c κs = search needs
 
 returns : tie.Need-returns
 unfolding numbered stateCode
@@ -53,7 +57,7 @@ returns-3 c = rw (c .enum-told2 .given .1)
 
 returns-4 : tie.Need-returns-4
 unfolding numbered stateCode
-returns-4 c = rw (c .enum-told3 .given .1)
+returns-4 c = rw (c .top .ensures, c .before .of-string .ensures, c .before .before .enum-told3 .given .1)
 
 pub string-number-spec : {M : Type 1} → statement M
 string-number-spec =
@@ -67,7 +71,8 @@ string-number-spec =
     enum-told-2
     mul-result-2
     enum-told-3
-    mul-result-3
+    of-string-requires
+    top-requires
     returns
     returns-2
     returns-3

@@ -5,7 +5,7 @@ use Prim.Native.Nat.{_-_}
 use native.Mathlib.Omega.{arith}
 use lib.ListN.{length}
 use Rattle.expansion.specs.declared.Classed.{Classed}
-use Rattle.conditionals.proofs.WalkLaws.{class-on}
+use Rattle.expansion_laws.specs.Forms.{class-on}
 use Rattle.conditionals.proofs.Laws.{Along, along-start, along-end, along-wrong, along-stop, along-go}
 use Rattle.conditionals.proofs.walk.Statement.{statement}
 use Rattle.conditionals.proofs.walk.Tie as tie

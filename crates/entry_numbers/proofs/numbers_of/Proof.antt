@@ -6,7 +6,6 @@ use Rattle.entry_numbers.specs.Entries.{numbersOf}
 use borrow.Author.Needs.{needs}
 use Rattle.entry_numbers.proofs.numbers_of.Statement.{statement}
 use Rattle.entry_numbers.proofs.numbers_of.Tie as tie
-use Rattle.entry_numbers.proofs.refusal_number.Reads as refusal-number-reads
 
 enum-known-o : tie.Need-enum-known-o
 enum-known-o c = search needs
@@ -14,15 +13,18 @@ enum-known-o c = search needs
 enum-known-o-2 : tie.Need-enum-known-o-2
 enum-known-o-2 c = search needs
 
-refusal-number-requires : tie.Need-refusal-number-requires
-refusal-number-requires c κs = search needs
+of-file-requires : tie.Need-of-file-requires
+of-file-requires c κs = search needs
+
+cast-refusal : tie.Need-cast-refusal
+cast-refusal c = search needs
 
 returns : tie.Need-returns
 returns c = rw (c .before .o .given .1)
 
 returns-2 : tie.Need-returns-2
-returns-2 c = rw (c .before .before .o2 .given .1, c .refusal-number .ensures)
+returns-2 c = rw (c .before .before .o2 .given .1, c .of-file .ensures)
 
 pub numbers-of-spec : {M : Type 1} → statement M
 numbers-of-spec =
-    tie.close (tie.spec enum-known-o enum-known-o-2 refusal-number-requires returns returns-2)
+    tie.close (tie.spec enum-known-o enum-known-o-2 of-file-requires cast-refusal returns returns-2)

@@ -3,7 +3,7 @@ use lib.ListN.{getD}
 use denote.Ref.{now}
 use borrow.Author.Tests.{le-leb, lt-leb, ne-eqb}
 use mathlib.Core.Logic.{⊎-elim}
-use Rattle.text.specs.Strings.{itemAt}
+use Rattle.text.specs.Strings.{stringItemAt}
 use borrow.Author.Needs.{needs}
 use Rattle.escapes.proofs.item_at.Statement.{statement}
 use Rattle.escapes.proofs.item_at.Tie as tie
@@ -33,35 +33,35 @@ add-t11 : tie.Need-add-t11
 add-t11 c = search needs
 
 returns : tie.Need-returns
-unfolding itemAt
+unfolding stringItemAt
 returns c = rw (c .match .keys1)
 
 returns-2 : tie.Need-returns-2
-unfolding itemAt
+unfolding stringItemAt
 returns-2 c = rw (c .before .match .keys2, c .escape-at .ensures)
 
 returns-3 : tie.Need-returns-3
-unfolding itemAt
+unfolding stringItemAt
 returns-3 c = rw (c .before .match .keys3, c .caret-at .ensures)
 
 returns-4 : tie.Need-returns-4
-unfolding itemAt
+unfolding stringItemAt
 returns-4 c = rw (c .before .match .keys4, c .line-end-at .ensures)
 
 returns-5 : tie.Need-returns-5
-unfolding itemAt
+unfolding stringItemAt
 returns-5 c =
     let b = getD (now (c .before .before .before .before .args .text)) (c .before .before .before .before .args .at) 0 in
     simp (ne-eqb _ _ (c .before .match .rest .0 .0 .0 .0 .1), ne-eqb _ _ (c .before .match .rest .0 .0 .0 .1), ne-eqb _ _ (c .before .match .rest .0 .0 .1), ne-eqb _ _ (c .before .match .rest .0 .1), lt-leb 32 b (omega arith))
 
 returns-6 : tie.Need-returns-6
-unfolding itemAt
+unfolding stringItemAt
 returns-6 c =
     let b = getD (now (c .before .before .before .before .before .args .text)) (c .before .before .before .before .before .args .at) 0 in
     simp (ne-eqb _ _ (c .before .before .match .rest .0 .0 .0 .0 .1), ne-eqb _ _ (c .before .before .match .rest .0 .0 .0 .1), ne-eqb _ _ (c .before .before .match .rest .0 .0 .1), ne-eqb _ _ (c .before .before .match .rest .0 .1), le-leb 32 b (omega arith), lt-leb b 126 (omega arith))
 
 returns-7 : tie.Need-returns-7
-unfolding itemAt
+unfolding stringItemAt
 returns-7 c =
     let b = getD (now (c .before .before .before .args .text)) (c .before .before .before .args .at) 0 in
     ⊎-elim (λ e. rw (e .keys5))

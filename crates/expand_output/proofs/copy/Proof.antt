@@ -6,7 +6,8 @@ use native.Mathlib.Numerals.{add-one}
 use native.Mathlib.Omega.{arith}
 use lib.ListN.{length, take, length-set}
 use lib.Seq.{take-suc, length-take-le}
-use Rattle.base.specs.Overwrite.{putAt, put-nil, put-store}
+use Rattle.base.specs.Overwrite.{putAt}
+use Rattle.base.proofs.OverwriteLaws.{put-nil, put-store}
 use Rattle.expand_output.proofs.copy.Statement.{statement}
 use Rattle.expand_output.proofs.copy.Tie as tie
 

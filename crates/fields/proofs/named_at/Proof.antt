@@ -2,7 +2,7 @@ use mathlib.Core.Path.{refl, sym, _∙_}
 use native.Mathlib.Omega.{arith}
 use borrow.Author.Needs.{needs}
 use denote.Ref.{now}
-use Rattle.text.specs.declared.Class.the-variants as C
+use Rattle.text.specs.declared.ByteClass.the-variants as C
 use Rattle.text_laws.specs.Runs.{run-le}
 use Rattle.text_laws.specs.FieldLaws.{byte-within, named-none, named-wrong, named-open, named-closed}
 use Rattle.fields.proofs.named_at.Statement.{statement}

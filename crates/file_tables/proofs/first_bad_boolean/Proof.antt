@@ -7,7 +7,8 @@ use mathlib.Core.Path.{_≡_, sym, _∙_}
 use lib.ListN.{getD}
 use borrow.Author.Tests.{not-true, not-false}
 use borrow.Author.Needs.{needs}
-use Rattle.base.specs.Scan.{scan, scan-step, scan-hit, scan-end, scan-start}
+use Rattle.base.specs.Scan.{scan}
+use Rattle.base.proofs.ScanLaws.{scan-step, scan-hit, scan-end, scan-start}
 use Rattle.entry.specs.State.{okBoolean}
 use Rattle.file_tables.proofs.first_bad_boolean.Statement.{statement}
 use Rattle.file_tables.proofs.first_bad_boolean.Tie as tie

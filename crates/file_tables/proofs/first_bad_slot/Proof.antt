@@ -7,7 +7,8 @@ use mathlib.Core.Path.{_≡_, sym, ap, _∙_}
 use lib.Dec.{ltb}
 use borrow.Author.Tests.{not-true, not-false}
 use borrow.Author.Needs.{needs}
-use Rattle.base.specs.Scan.{scan, scan-step, scan-hit, scan-end, scan-start}
+use Rattle.base.specs.Scan.{scan}
+use Rattle.base.proofs.ScanLaws.{scan-step, scan-hit, scan-end, scan-start}
 use Rattle.word.specs.Word.{word}
 use Rattle.entry.specs.Limits.{shortWidth}
 use Rattle.entry.specs.State.{okSlot}

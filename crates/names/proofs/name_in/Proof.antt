@@ -1,7 +1,7 @@
 -- `names::name_in` meets its contract: the table's number at a place is the name's.
 use Prim.Native.Nat.{_+_}
 use borrow.Author.Tests.{lt-ltb, le-ltb}
-use Rattle.names.specs.Naming.{packed-at}
+use Rattle.names.proofs.NamingLaws.{packed-at}
 use borrow.Author.Needs.{needs}
 use Rattle.names.proofs.name_in.Statement.{statement}
 use Rattle.names.proofs.name_in.Tie as tie

@@ -4,7 +4,7 @@ use lib.ListN.{length}
 use native.Mathlib.Omega.{arith}
 use borrow.Author.Needs.{needs}
 use Prim.Native.Nat.{_+_, _-_}
-use Rattle.base.specs.Scan.{scan-ge}
+use Rattle.base.proofs.ScanLaws.{scan-ge}
 use Rattle.word.specs.Nul.{notNul}
 use Rattle.file_tables.proofs.Laws.{at-table}
 use Rattle.opened_file.proofs.Laws.{framed, opened-content}

@@ -1,7 +1,7 @@
 -- `print::is_plain` meets its contract, by its tests.
 -- Assumes nothing.
 use mathlib.Core.Path.{sym}
-use Rattle.base.specs.If.{true-false}
+use Rattle.base.proofs.IfLaws.{true-false}
 use borrow.Author.Needs.{needs}
 use Rattle.print.proofs.is_plain.Statement.{statement}
 use Rattle.print.proofs.is_plain.Tie as tie

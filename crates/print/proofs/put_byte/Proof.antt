@@ -3,7 +3,7 @@
 use mathlib.Core.Path.{sym, _∙_}
 use mathlib.Core.List.{[], _∷_}
 use native.Mathlib.Omega.{arith}
-use Rattle.base.specs.Overwrite.{put-set}
+use Rattle.base.proofs.OverwriteLaws.{put-set}
 use Rattle.print.proofs.EmitLaws.{emitted-fits, emitted-not}
 use borrow.Author.Needs.{needs}
 use Rattle.print.proofs.put_byte.Statement.{statement}

@@ -4,7 +4,8 @@ use mathlib.Core.Path.{_≡_, refl, sym}
 use Prim.Native.Nat.{_+_, _-_, _≤_}
 use native.Mathlib.Omega.{arith}
 use lib.ListN.{length, length-set, replicate, length-replicate, replicate-append-replicate}
-use Rattle.base.specs.Overwrite.{putAt, put-nil, put-store}
+use Rattle.base.specs.Overwrite.{putAt}
+use Rattle.base.proofs.OverwriteLaws.{put-nil, put-store}
 use Rattle.print.proofs.put_fill.Statement.{statement}
 use Rattle.print.proofs.put_fill.Tie as tie
 

@@ -5,7 +5,8 @@ use mathlib.Core.List.{_++_}
 use Prim.Native.Nat.{ℕ, _+_}
 use native.Mathlib.Omega.{arith}
 use lib.ListN.{length, replicate, length-replicate}
-use Rattle.base.specs.Overwrite.{putAt, put-run}
+use Rattle.base.specs.Overwrite.{putAt}
+use Rattle.base.proofs.OverwriteLaws.{put-run}
 use Rattle.print.specs.Numeral.{minusSign, front}
 use Rattle.print.proofs.NumeralLaws.{front-none}
 use borrow.Author.Needs.{needs}

@@ -4,7 +4,8 @@ use native.Mathlib.Nat.{mod-lt, lt-of-lt-of-le}
 use native.Mathlib.Omega.{arith}
 use lib.ListN.{length-set}
 use Rattle.expansion.specs.Print.{digits}
-use Rattle.print.proofs.DigitLaws.{div-falls, Placed, placed-none, placed-some, placed-length, placed-fits, placed-more, placed-all}
+use Rattle.expansion_laws.specs.Digits.{div-falls}
+use Rattle.print.proofs.DigitLaws.{Placed, placed-none, placed-some, placed-length, placed-fits, placed-more, placed-all}
 use Rattle.print.proofs.put_in_base.Statement.{statement}
 use Rattle.print.proofs.put_in_base.Tie as tie
 

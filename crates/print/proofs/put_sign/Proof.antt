@@ -3,7 +3,7 @@
 use mathlib.Core.Path.{_≡_, sym}
 use native.Mathlib.Omega.{arith}
 use lib.ListN.{length}
-use Rattle.base.specs.Overwrite.{put-nil, put-set}
+use Rattle.base.proofs.OverwriteLaws.{put-nil, put-set}
 use Rattle.print.specs.Numeral.{minusSign}
 use borrow.Author.Needs.{needs}
 use Rattle.print.proofs.put_sign.Statement.{statement}

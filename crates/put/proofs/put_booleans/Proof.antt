@@ -8,7 +8,8 @@ use denote.Ref.{now}
 use lib.ListN.{length, getD, length-set}
 use borrow.Author.Needs.{needs}
 use Rattle.base.specs.Tabulate.{tabulate}
-use Rattle.base.specs.Overwrite.{putAt, put-nil}
+use Rattle.base.specs.Overwrite.{putAt}
+use Rattle.base.proofs.OverwriteLaws.{put-nil}
 use Rattle.entry.specs.State.{booleanCode}
 use Rattle.entry.specs.Writing.{stateOf}
 use Rattle.put.specs.Table.{booleansOf}

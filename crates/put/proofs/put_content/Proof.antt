@@ -7,7 +7,8 @@ use native.Mathlib.Omega.{arith}
 use denote.Ref.{now}
 use lib.ListN.{length, take, drop, length-append, length-drop, length-take}
 use borrow.Author.Needs.{needs}
-use Rattle.base.specs.Overwrite.{putAt, put-nil}
+use Rattle.base.specs.Overwrite.{putAt}
+use Rattle.base.proofs.OverwriteLaws.{put-nil}
 use Rattle.put.proofs.TableLaws.{bytes-present, bytes-none, part-none, part-present, in-first, in-second}
 use Rattle.put.proofs.put_content.Statement.{statement}
 use Rattle.put.proofs.put_content.Tie as tie

@@ -5,7 +5,7 @@ use mathlib.Core.List.{[], _∷_}
 use native.Mathlib.Omega.{arith}
 use denote.Ref.{now}
 use borrow.Author.Needs.{needs}
-use Rattle.base.specs.Overwrite.{put-nil}
+use Rattle.base.proofs.OverwriteLaws.{put-nil}
 use Rattle.word.specs.Word.{words}
 use Rattle.entry.specs.Writing.{header}
 use Rattle.put.proofs.TableLaws.{put-front-short}

@@ -8,7 +8,8 @@ use denote.Ref.{now}
 use lib.ListN.{length, getD}
 use borrow.Author.Needs.{needs}
 use Rattle.base.specs.Tabulate.{tabulate}
-use Rattle.base.specs.Overwrite.{putAt, put-nil}
+use Rattle.base.specs.Overwrite.{putAt}
+use Rattle.base.proofs.OverwriteLaws.{put-nil}
 use Rattle.word.specs.Word.{words}
 use Rattle.entry.specs.Limits.{numberWidth}
 use Rattle.entry.specs.Writing.{numberCode, stateOf}

@@ -6,7 +6,8 @@ use native.Mathlib.Omega.{arith}
 use native.Mathlib.Decide.{ℕ-discrete}
 use denote.Ref.{now}
 use borrow.Author.Needs.{needs}
-use Rattle.base.specs.Overwrite.{putAt, put-nil, put-set}
+use Rattle.base.specs.Overwrite.{putAt}
+use Rattle.base.proofs.OverwriteLaws.{put-nil, put-set}
 use Rattle.entry.specs.Writing.{padding}
 use Rattle.put.proofs.TableLaws.{padding-one}
 use Rattle.put.proofs.put_pad.Statement.{statement}

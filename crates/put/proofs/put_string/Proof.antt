@@ -7,7 +7,7 @@ use native.Mathlib.Omega.{arith}
 use denote.Ref.{now}
 use lib.ListN.{length, length-set}
 use borrow.Author.Needs.{needs}
-use Rattle.base.specs.Overwrite.{put-store}
+use Rattle.base.proofs.OverwriteLaws.{put-store}
 use Rattle.put.proofs.put_string.Statement.{statement}
 use Rattle.put.proofs.put_string.Tie as tie
 

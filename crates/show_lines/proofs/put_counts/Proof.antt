@@ -3,7 +3,7 @@
 use mathlib.Core.List.{_++_}
 use native.Mathlib.Omega.{arith}
 use Rattle.names.specs.Names.{ascii}
-use Rattle.shown.specs.Puts.{puts-most}
+use Rattle.shown.proofs.PutsLaws.{puts-most}
 use Rattle.show_lines.specs.Lines.{decimal, lineEnd, countsLine}
 use Rattle.show_lines.proofs.Laws.{counts-puts}
 use borrow.Author.Needs.{needs}

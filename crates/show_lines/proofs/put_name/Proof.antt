@@ -5,7 +5,7 @@ use native.Mathlib.Omega.{arith}
 use denote.Ref.{now}
 use borrow.Author.Needs.{needs}
 use Rattle.names.specs.Naming.{saysName}
-use Rattle.shown.specs.Puts.{puts-none, puts-most}
+use Rattle.shown.proofs.PutsLaws.{puts-none, puts-most}
 use Rattle.show_lines.proofs.Laws.{name-packed, name-beyond}
 use Rattle.show_lines.proofs.put_name.Statement.{statement}
 use Rattle.show_lines.proofs.put_name.Tie as tie

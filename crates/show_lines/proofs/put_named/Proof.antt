@@ -2,7 +2,7 @@
 -- Assumes nothing.
 use native.Mathlib.Omega.{arith}
 use borrow.Author.Needs.{needs}
-use Rattle.shown.specs.Puts.{puts-then}
+use Rattle.shown.proofs.PutsLaws.{puts-then}
 use Rattle.show_lines.proofs.put_named.Statement.{statement}
 use Rattle.show_lines.proofs.put_named.Tie as tie
 

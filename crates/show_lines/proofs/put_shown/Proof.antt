@@ -1,7 +1,7 @@
 -- `show_lines::put_shown` meets its contract: one run behind another.
 -- Assumes nothing.
 use borrow.Author.Needs.{needs}
-use Rattle.shown.specs.Puts.{puts-then}
+use Rattle.shown.proofs.PutsLaws.{puts-then}
 use Rattle.show_lines.proofs.put_shown.Statement.{statement}
 use Rattle.show_lines.proofs.put_shown.Tie as tie
 

@@ -1,7 +1,7 @@
 -- `terminfo::open_string` meets its contract: a walk of its MIR, by hand. The entry that `open` returns is held in a local and passed to `string_part`. All that the proof knows of the two is that each meets its contract.
 -- In a local of a body MIR erases the lifetime of the entry's type, so the value is shown to have the type at `erased`: what the entry owns does not say the lifetime's name.
 -- Assumes nothing.
-use mathlib.Core.Path.{_≡_, refl, ap, subst}
+use mathlib.Core.Path.{_≡_, refl, subst}
 use Prim.Native.Nat.{ℕ}
 use mathlib.Core.List.{List, [], _∷_}
 use lib.ListN.{length}
@@ -42,14 +42,20 @@ use Rattle.edition.proofs.Edition as E
 use Rattle.edition.proofs.Edition.Laws as E′
 use Rattle.edition.proofs.Place as P
 use Rattle.edition.proofs.Place.Laws as P′
-use Rattle.entry.specs.Asking.{askingString, partGiven}
-use Rattle.states.specs.Held.{IsPart}
+use Rattle.base.specs.Answer.{Answer}
+use Rattle.entry.specs.declared.Part as File
+use Rattle.entry.specs.State.{State}
+use Rattle.entry.specs.Asking.{askingString}
 use Rattle.terminfo.specs.Entries.{entryOf}
+use Rattle.terminfo.specs.Parts.{StringAs}
 use Rattle.entry_numbers.specs.Entries.{entryString}
 use Rattle.entry_numbers.proofs.EntryLaws.{opened-string}
 use Rattle.terminfo.specs.declared.Entry.{Entry}
+use Rattle.terminfo.specs.declared.StringPart.{StringPart}
 use Rattle.terminfo.proofs.Entry as T
 use Rattle.terminfo.proofs.Entry.Laws as T′
+use Rattle.terminfo.proofs.StringPart as Y
+use Rattle.terminfo.proofs.StringPart.Laws as Y′
 use Rattle.terminfo.proofs.open as new
 use Rattle.terminfo.proofs.open.Symbol as new-def
 use Rattle.terminfo.proofs.open.Symbol.{name as #new}
@@ -94,20 +100,20 @@ module _ {M : Type 1} (𝓤 : URA M) (H : Heap 𝓤) (A : Atoms 𝓤) (W : Given
 
   -- the result's type
   abbrev R : RattleType
-  R = ShrSlice (named 0) κ u8
+  R = Y.the-row (namedLft 1 0 tt (κ, tt))
 
-  -- what is said of the entry, of its part and of the result
+  -- what is said of the entry, of its string and of the result
   abbrev Opened : Entry → Type 0
   Opened r = r ≡ entryOf s e₀
 
-  abbrev Part : Entry → R .Denot → Type 0
-  Part r t = IsPart (r .file) t (partGiven (entryString (now (r .file)) (r .numbers) p₀))
+  abbrev Part : Entry → StringPart → Type 0
+  Part r t = StringAs (r .file) (entryString (now (r .file)) (r .numbers) p₀) t
 
-  abbrev Claim : R .Denot → Type 0
-  Claim t = IsPart s t (partGiven (askingString e₀ (now s) p₀))
+  abbrev Claim : StringPart → Type 0
+  Claim t = StringAs s (askingString e₀ (now s) p₀) t
 
-  claimed : (r : Entry) (t : R .Denot) → Opened r → Part r t → Claim t
-  claimed r t o c = subst (IsPart s t) (ap partGiven (opened-string e₀ (now s) p₀)) (subst (λ (x : Entry). Part x t) o c)
+  claimed : (r : Entry) (t : StringPart) → Opened r → Part r t → Claim t
+  claimed r t o c = subst (λ (a : Answer (State File.Part)). StringAs s a t) (opened-string e₀ (now s) p₀) (subst (λ (x : Entry). Part x t) o c)
 
   -- the struct's type as a local of a body has it
   abbrev αᵉ : NamedLft
@@ -142,10 +148,10 @@ module _ {M : Type 1} (𝓤 : URA M) (H : Heap 𝓤) (A : Atoms 𝓤) (W : Given
       qed W (‵ (B (κ, tt) .own r (u ∷ [])) ∷ (‵ (flft κ q) ⊛ ‵ ftrue) ∷ []) ∵
       nothing ! $ owned ! P.the-row (Is P.the-row) (LL.makes P.the-type P′.the-plain 𝓤 H A) p₀ _ isp $ fjoin ! $ move ! (1 ∷ 0 ∷ []) $ fjoin ! $ move ! (1 ∷ 0 ∷ []) $ join ! $ frame ! $ done !
 
-  next-said : (r : Entry) (t : R .Denot) → ent 𝓤 (ensured 𝓤 H A next.ended (next.clauses 𝓤 H A mem run) (κ, tt) (r, (p₀, tt)) tt t) (fact 𝓤 (Part r t))
+  next-said : (r : Entry) (t : StringPart) → ent 𝓤 (ensured 𝓤 H A next.ended (next.clauses 𝓤 H A mem run) (κ, tt) (r, (p₀, tt)) tt t) (fact 𝓤 (Part r t))
   next-said r t = exE 𝓤 _ (λ ws. snd∗ 𝓤 (sem 𝓤 H A (lasts next.ended (κ, tt) (r, (p₀, tt)) ws)) (fact 𝓤 (Part r t)))
 
-  exits : Is E.the-row e₀ (ev ∷ []) → Is P.the-row p₀ (pv ∷ []) → (t : R .Denot) (u : Val) → Claim t → ent 𝓤 (⋆ 𝓤 H A (‵ (R .own t (u ∷ [])) ∷ (‵ (flft κ q) ⊛ ‵ ftrue) ∷ ‵ Own ∷ [])) (Post u)
+  exits : Is E.the-row e₀ (ev ∷ []) → Is P.the-row p₀ (pv ∷ []) → (t : StringPart) (u : Val) → Claim t → ent 𝓤 (⋆ 𝓤 H A (‵ (R .own t (u ∷ [])) ∷ (‵ (flft κ q) ⊛ ‵ ftrue) ∷ ‵ Own ∷ [])) (Post u)
   exits ise isp t u c =
       qed W (‵ (R .own t (u ∷ [])) ∷ (‵ (flft κ q) ⊛ ‵ ftrue) ∷ ‵ Own ∷ []) ∵
       suffices ! _ (ends-at 𝓤 H A first.ended stayed (first.clauses 𝓤 H A mem run) W (((κ, tt), (q, tt), tt, (s, (e₀, (p₀, tt))), at), tt) u t (tt, (tt, (tt, tt))) (tt, (tt, (tt, tt)))) $ says ! c $
@@ -167,11 +173,11 @@ module _ {M : Type 1} (𝓤 : URA M) (H : Heap 𝓤) (A : Atoms 𝓤) (W : Given
         land ! (from ! (stop !)) (init ! 3 refl (LL.lawful (T.the-type αᵉ) (T′.the-laws αᵉ) 𝓤 H A W .typed r _ is .0)) $
         use2 W (raw (Next 𝓤 H A mem run .pre (to-next r u))) (goes-next isp r u) $
         calls-at ! fm (Next 𝓤 H A mem run) known-next (to-next r u) (and-then ! (load ! (from ! (stop !)) (look ! 2 refl)) (and-then ! (load ! (from ! (stop !)) (look ! 4 refl)) (no-more !))) (λ u′.
-        use1 W (later (some (λ (t : R .Denot). ((‵ (flft κ q) ⊛ ‵ ftrue) ⊛ ‵ (R .own t (u′ ∷ []))) ⊛ raw (ensured 𝓤 H A next.ended (next.clauses 𝓤 H A mem run) (κ, tt) (r, (p₀, tt)) tt t)))) (id⊢ 𝓤 _) $ await ! tt $ pick ! (λ t.
+        use1 W (later (some (λ (t : StringPart). ((‵ (flft κ q) ⊛ ‵ ftrue) ⊛ ‵ (R .own t (u′ ∷ []))) ⊛ raw (ensured 𝓤 H A next.ended (next.clauses 𝓤 H A mem run) (κ, tt) (r, (p₀, tt)) tt t)))) (id⊢ 𝓤 _) $ await ! tt $ pick ! (λ t.
         split ! $ move ! (1 ∷ []) $ use1 W (raw (fact 𝓤 (Part r t))) (next-said r t) $ heard ! (Part r t) (λ c. split ! $ move ! (1 ∷ []) $
         -- [the result; the token; what s owns; _4; …; _3; …; _2; …; _1; …; room for _0; …]
         peeks ! R (Is R) (shows 𝓤 H A R) t (u′ ∷ []) (λ is′.
-        land ! (from ! (stop !)) (init ! 11 refl (shr-slice-lawful 𝓤 H A W (named 0) κ u8 .typed t _ is′ .0)) $
+        land ! (from ! (stop !)) (init ! 11 refl (LL.lawful (Y.the-type (namedLft 1 0 tt (κ, tt))) (Y′.the-laws (namedLft 1 0 tt (κ, tt))) 𝓤 H A W .typed t _ is′ .0)) $
         returns ! (look ! 11 refl) $ forget ! 3 refl $ forget ! 5 refl $ forget ! 7 refl $ forget ! 9 refl $ forget ! 11 refl $
         move ! (11 ∷ 12 ∷ []) $ free1 ! $ move ! (9 ∷ 10 ∷ []) $ free1 ! $ move ! (7 ∷ 8 ∷ []) $ free1 ! $ move ! (5 ∷ 6 ∷ []) $ free1 ! $ move ! (3 ∷ 4 ∷ []) $ free1 ! $ free0 ! $
         by ! (exits ise isp t u′ (claimed r t o c)))))))))))))))

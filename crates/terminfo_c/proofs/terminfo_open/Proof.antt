@@ -2,7 +2,6 @@
 use denote.Ref.{now}
 use Prim.Native.Nat.{ℕ, _*_, _^_}
 use mathlib.Core.Path.{sym, ap, _∙_}
-use native.Mathlib.Omega.{arith}
 use Rattle.entry.specs.Says.{saysOpened}
 use Rattle.terminfo_c.proofs.Laws.{open-done, open-refused}
 use borrow.Author.Needs.{needs}
@@ -21,23 +20,24 @@ opening-array-requires c κs = search needs
 enum-known-why : tie.Need-enum-known-why
 enum-known-why c = search needs
 
-file-number-requires : tie.Need-file-number-requires
-file-number-requires c κs = search needs
+of-file-requires : tie.Need-of-file-requires
+of-file-requires c κs = search needs
 
-mul-result : tie.Need-mul-result
-mul-result c =
-    let h = c .file-number .ensures .1 in
-    omega arith
+top-requires : tie.Need-top-requires
+top-requires c κs = search needs
 
 returns : tie.Need-returns
 returns c =
-    let p = open-done _ (now (c .before .before .before .before .before .before .args .tables)) _ (ap saysOpened (sym (c .before .before .t .given .1)) ∙ c .before .before .before .before .«open» .ensures) in
+    let p = open-done _ (now (c .before .before .before .before .before .before .args .tables)) _
+    (ap saysOpened (sym (c .before .before .t .given .1)) ∙ c .before .before .before .before .«open» .ensures) in
     (p .0, c .opening-array .ensures ∙ p .1)
 
 returns-2 : tie.Need-returns-2
 returns-2 c =
-    let p = open-refused _ (now (c .before .before .before .before .before .before .args .tables)) _ (ap saysOpened (sym (c .before .before .why .given .1)) ∙ c .before .before .before .before .«open» .ensures) in
-    (ap (λ (n : ℕ). n * 2 ^ 56) (c .file-number .ensures .0) ∙ p .0, p .1)
+    let p = open-refused _ (now (c .before .before .before .before .before .before .before .args .tables)) _
+    (ap saysOpened (sym (c .before .before .before .why .given .1))
+    ∙ c .before .before .before .before .before .«open» .ensures) in
+    (c .top .ensures ∙ ap (λ (n : ℕ). n * 2 ^ 56) (c .before .of-file .ensures) ∙ p .0, p .1)
 
 pub terminfo-open-spec : {M : Type 1} → statement M
 terminfo-open-spec =
@@ -47,7 +47,7 @@ terminfo-open-spec =
     enum-known-t
     opening-array-requires
     enum-known-why
-    file-number-requires
-    mul-result
+    of-file-requires
+    top-requires
     returns
     returns-2)

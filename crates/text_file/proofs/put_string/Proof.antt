@@ -6,7 +6,8 @@ use native.Mathlib.Omega.{arith}
 use denote.Ref.{now}
 use lib.ListN.{length}
 use borrow.Author.Needs.{needs}
-use Rattle.base.specs.Overwrite.{putAt, put-nil, length-put}
+use Rattle.base.specs.Overwrite.{putAt}
+use Rattle.base.proofs.OverwriteLaws.{put-nil, length-put}
 use Rattle.put.proofs.TableLaws.{bytes-present, part-none}
 use Rattle.text.specs.Strings.{readAt, bytesOf}
 use Rattle.compile_laws.proofs.WriteLaws.{read-put}

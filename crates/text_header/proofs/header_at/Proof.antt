@@ -2,7 +2,7 @@ use mathlib.Core.Path.{sym, _∙_}
 use borrow.Author.Needs.{needs}
 use denote.Ref.{now}
 use borrow.Author.Tests.{not-true, not-false}
-use Rattle.text.specs.declared.Class.the-variants as C
+use Rattle.text.specs.declared.ByteClass.the-variants as C
 use Rattle.text_laws.specs.Runs.{run-ge}
 use Rattle.text_laws.specs.HeadingLaws.{header-past, header-wrong, header-more, header-long, header-is}
 use Rattle.text_header.proofs.header_at.Statement.{statement}

@@ -2,7 +2,7 @@ use mathlib.Core.Path.{sym, _∙_}
 use borrow.Author.Needs.{needs}
 use borrow.Author.Tests.{le-ltb, not-true, not-false}
 use denote.Ref.{now}
-use Rattle.text.specs.declared.Class.the-variants as C
+use Rattle.text.specs.declared.ByteClass.the-variants as C
 use Rattle.text_laws.specs.HeadingLaws.{made-none, made-run}
 use Rattle.text_header.proofs.last_right.Statement.{statement}
 use Rattle.text_header.proofs.last_right.Tie as tie

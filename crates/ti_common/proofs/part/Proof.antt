@@ -3,7 +3,7 @@
 use native.Mathlib.Omega.{arith}
 use lib.ListN.{length}
 use denote.Ref.{now}
-use Rattle.shown.specs.Puts.{counted}
+use Rattle.shown.proofs.PutsLaws.{counted}
 use Rattle.ti_common.proofs.part.Statement.{statement}
 use Rattle.ti_common.proofs.part.Tie as tie
 

@@ -4,7 +4,7 @@ use Prim.Native.Nat.{_-_}
 use mathlib.Core.Path.{_≡_, refl, sym, _∙_}
 use borrow.Author.Tests.{ne-eqb}
 use borrow.Author.Needs.{needs}
-use Rattle.base.specs.Scan.{scan-step, scan-hit, scan-end}
+use Rattle.base.proofs.ScanLaws.{scan-step, scan-hit, scan-end}
 use Rattle.word.specs.Nul.{nulFrom, notNul}
 use Rattle.word.proofs.find_nul.Statement.{statement}
 use Rattle.word.proofs.find_nul.Tie as tie

@@ -1,5 +1,6 @@
 use Rattle.word.specs.Word.{bytes}
-use Rattle.base.specs.Overwrite.{putAt, put-store, put-set}
+use Rattle.base.specs.Overwrite.{putAt}
+use Rattle.base.proofs.OverwriteLaws.{put-store, put-set}
 use lib.ListN.{length-set}
 use denote.Ref.{now}
 use Prim.Native.Nat.{_+_, _%_}

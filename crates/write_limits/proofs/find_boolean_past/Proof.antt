@@ -7,7 +7,8 @@ use Prim.Native.Nat.{ℕ, _-_, _≤_}
 use denote.Ref.{now}
 use borrow.Author.Needs.{needs}
 use borrow.Author.Tests.{le-leb, lt-leb}
-use Rattle.base.specs.Scan.{scan, scan-step, scan-hit, scan-end, scan-start}
+use Rattle.base.specs.Scan.{scan}
+use Rattle.base.proofs.ScanLaws.{scan-step, scan-hit, scan-end, scan-start}
 use Rattle.entry.specs.Writing.{booleanFitsAt}
 use Rattle.entry.specs.Handed.{booleansHanded}
 use Rattle.write_limits.proofs.find_boolean_past.Statement.{statement}

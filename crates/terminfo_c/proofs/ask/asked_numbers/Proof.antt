@@ -5,8 +5,10 @@ use mathlib.Core.List.{List, [], _∷_, _++_}
 use mathlib.Core.Path.{_≡_, refl, sym, ap, _∙_}
 use native.Mathlib.Omega.{arith}
 use lib.ListN.{length, getD}
-use Rattle.base.specs.Overwrite.{putAt, put-nil, put-store, put-whole}
-use Rattle.base.specs.Tabulate.{tabulate, length-tabulate, tabulate-more}
+use Rattle.base.specs.Overwrite.{putAt}
+use Rattle.base.proofs.OverwriteLaws.{put-nil, put-store, put-whole}
+use Rattle.base.specs.Tabulate.{tabulate}
+use Rattle.base.proofs.TabulateLaws.{length-tabulate, tabulate-more}
 use Rattle.edition.specs.declared.Edition.{Edition}
 use Rattle.terminfo_c.specs.Calls.{askedCode}
 use borrow.Author.Needs.{needs}

@@ -1,7 +1,7 @@
 -- `ti_common::output::say_piece` is safe: what is put has room.
 -- Assumes nothing.
 use borrow.Author.Needs.{needs}
-use Rattle.shown.specs.Puts.{puts-first}
+use Rattle.shown.proofs.PutsLaws.{puts-first}
 use Rattle.ti_common.proofs.output.say_piece.Statement.{statement}
 use Rattle.ti_common.proofs.output.say_piece.Tie as tie
 

@@ -16,8 +16,8 @@ enum-told c = search needs
 enum-known-why : tie.Need-enum-known-why
 enum-known-why c = search needs
 
-file-number-requires : tie.Need-file-number-requires
-file-number-requires c κs = search needs
+of-file-requires : tie.Need-of-file-requires
+of-file-requires c κs = search needs
 
 refuse-requires : tie.Need-refuse-requires
 refuse-requires c κs = search needs
@@ -29,4 +29,4 @@ returns-2 : tie.Need-returns-2
 returns-2 c = ap isGiven (ap saysJudged (sym (c .before .before .before .why .given .1)) ∙ c .before .before .before .before .before .judge .ensures)
 
 pub accept-spec : {M : Type 1} → statement M
-accept-spec = tie.close (tie.spec judge-requires enum-told enum-known-why file-number-requires refuse-requires returns returns-2)
+accept-spec = tie.close (tie.spec judge-requires enum-told enum-known-why of-file-requires refuse-requires returns returns-2)

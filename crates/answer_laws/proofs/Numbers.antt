@@ -1,0 +1,399 @@
+-- What a number for C tells: first of any answer whose values lie within their bits, then enum by enum.
+-- Assumes nothing.
+use mathlib.Core.Path.{_≡_, refl, sym, ap, _∙_}
+use mathlib.Core.Bool.{Bool, true, false}
+use mathlib.Core.List.{List, [], _∷_}
+use Prim.Native.Nat.{ℕ, _+_, _*_, _<_, _≤_, _/_, _^_}
+use native.Mathlib.Omega.{arith}
+use lib.Dec.{ltb}
+use lib.ListN.{length, getD}
+use borrow.Author.Tests.{ltb-true}
+use Rattle.base.specs.If.{if_then_else_}
+use Rattle.base.proofs.IfLaws.{true-false}
+use Rattle.base.specs.Answer.{Answer, refused, gives, isGiven, numberOf}
+use Rattle.word.specs.Word.{word}
+use Rattle.edition.specs.declared.Kind.{Kind}
+use Rattle.edition.specs.declared.Kind.the-variants as K
+use Rattle.edition.specs.declared.Place.{Place}
+use Rattle.edition.specs.Edition.{knows}
+use Rattle.entry.specs.declared.Part.{Part}
+use Rattle.entry.specs.declared.FileRefusal.{FileRefusal}
+use Rattle.entry.specs.declared.FileRefusal.the-variants as R
+use Rattle.entry.specs.declared.Opened.{Opened}
+use Rattle.entry.specs.declared.Opened.the-variants as O
+use Rattle.entry.specs.declared.Names.{Names}
+use Rattle.entry.specs.declared.Names.the-variants as M
+use Rattle.entry.specs.declared.BooleanState.{BooleanState}
+use Rattle.entry.specs.declared.BooleanState.the-variants as B
+use Rattle.entry.specs.declared.NumberState.{NumberState}
+use Rattle.entry.specs.declared.NumberState.the-variants as N
+use Rattle.entry.specs.declared.StringState.{StringState}
+use Rattle.entry.specs.declared.StringState.the-variants as S
+use Rattle.entry.specs.declared.Written.{Written}
+use Rattle.entry.specs.declared.Written.the-variants as W
+use Rattle.entry.specs.declared.Merged.{Merged}
+use Rattle.entry.specs.declared.Merged.the-variants as G
+use Rattle.entry.specs.State.{State, absent, cancelled, present}
+use Rattle.entry.specs.Limits.{fileMost}
+use Rattle.entry.specs.Says.{fileNumber, saysOpened, saysNames, saysBoolean, saysNumber, saysString}
+use Rattle.entry.specs.Says.{saysWritten, saysMerged}
+use Rattle.names.specs.declared.Name.{Name}
+use Rattle.names.specs.declared.Name.the-variants as A
+use Rattle.names.specs.Names.{ascii, parted, named, booleanNames, numberNames, stringNames, namesOf}
+use Rattle.names.specs.Naming.{packed, naming, saysName}
+use Rattle.names.proofs.Places.{all, all-at}
+use Rattle.text.specs.declared.TextRefusal.{TextRefusal}
+use Rattle.text.specs.declared.TextRefusal.the-variants as T
+use Rattle.text.specs.declared.Compiled.{Compiled}
+use Rattle.text.specs.declared.Compiled.the-variants as C
+use Rattle.text.specs.Compiling.{textNumber, saysCompiled}
+use Rattle.text_laws.specs.Values.{Bounded}
+use Rattle.expansion.specs.declared.Expansion.{Expansion}
+use Rattle.expansion.specs.declared.Expansion.the-variants as E
+use Rattle.expansion.specs.Expanding.{Counts, saysExpansion}
+use Rattle.c_numbers.specs.Numbers.{numbered, none, stateCode, booleanCode, numberCode, partCode, stringCode}
+use Rattle.c_numbers.specs.Numbers.{openingArray, expansionNumber}
+use Rattle.c_numbers.specs.Numbers.{PartWithin, NamesWithin, StringWithin, WrittenWithin, MergedWithin}
+use Rattle.answer_laws.specs.Distinct.{Injective}
+use Rattle.answer_laws.specs.Numbers.{Any, NumberWithin, NameWithin, ExpansionWithin}
+use Rattle.answer_laws.specs.Numbers.{TopByte, Tells, Numbers}
+use Rattle.answer_laws.proofs.Back as back
+use Rattle.answer_laws.proofs.Distinct.{distinct}
+
+-- ---- any answer
+
+-- a refusal's number isn't 0 and its first value is below the top byte; what is given meets Ok
+abbrev Fits : {A : Type 0} → (A → Type 0) → Answer A → Type 0
+Fits Ok (refused n v) = (1 ≤ n) × (getD v 0 0 < 2 ^ 56)
+Fits Ok (gives x) = Ok x
+
+module _ {R A : Type 0} (says : R → Answer A) (Within : R → Type 0) (Ok : A → Type 0) (code : A → ℕ)
+    (fits : (r : R) → Within r → Fits Ok (says r)) (below : (x : A) → Ok x → code x < 2 ^ 56) where
+  number-above : (a : Answer A) → Fits Ok a → numbered code a / 2 ^ 56 ≡ numberOf a
+  unfolding numbered
+  number-above (refused n v) h = omega arith
+  number-above (gives x) h =
+      let l = below x h in
+      omega arith
+
+  given-below : (a : Answer A) → Fits Ok a → isGiven a ≡ true → numbered code a < 2 ^ 56
+  unfolding numbered
+  given-below (refused n v) h e = true-false (sym e)
+  given-below (gives x) h e = below x h
+
+  refused-above : (a : Answer A) → Fits Ok a → isGiven a ≡ false → 2 ^ 56 ≤ numbered code a
+  unfolding numbered
+  refused-above (refused n v) h e = omega arith
+  refused-above (gives x) h e = true-false e
+
+  top-byte : TopByte says Within (numbered code)
+  top-byte = record {
+    top = λ r w. number-above (says r) (fits r w);
+    success = λ r w e. omega (arith, given-below (says r) (fits r w) e);
+    refusal = λ r w e. omega (arith, refused-above (says r) (fits r w) e);
+  }
+
+  plain-same : (a b : Answer A) → ((x y : A) → Ok x → Ok y → code x ≡ code y → x ≡ y) → Fits Ok a → Fits Ok b
+      → numbered code a ≡ numbered code b → back.plain a ≡ back.plain b
+  unfolding numbered
+  plain-same (refused n v) (refused m w) t h k e =
+      let p : n ≡ m = omega arith in
+      let q : getD v 0 0 ≡ getD w 0 0 = omega arith in
+      λ i. refused (p i) (q i ∷ [])
+  plain-same (refused n v) (gives y) t h k e =
+      let l = below y k in
+      absurd (let z : ⊥ = omega arith in z)
+  plain-same (gives x) (refused m w) t h k e =
+      let l = below x h in
+      absurd (let z : ⊥ = omega arith in z)
+  plain-same (gives x) (gives y) t h k e = ap gives (t x y h k e)
+
+  telling : ((x y : A) → Ok x → Ok y → code x ≡ code y → x ≡ y)
+      → (b : Answer A → R) → ((r : R) → b (back.plain (says r)) ≡ r) → Tells says Within (numbered code)
+  telling t b law = record {
+    byte = top-byte;
+    tells = λ r s v w e.
+        sym (law r) ∙ ap b (plain-same (says r) (says s) t (fits r v) (fits s w) e) ∙ law s;
+  }
+
+-- ---- codes of what is given
+
+abbrev InFile : ℕ → Type 0
+InFile n = n ≤ fileMost
+
+in-file-below : (n : ℕ) → InFile n → n < 2 ^ 56
+in-file-below n h = omega arith
+
+abbrev InWord : ℕ → Type 0
+InWord n = n < 2 ^ 32
+
+part-below : (p : Part) → PartWithin p → partCode p < 2 ^ 48
+part-below p h = omega arith
+
+part-tells : (p q : Part) → PartWithin p → PartWithin q → partCode p ≡ partCode q → p ≡ q
+part-tells p q h k e =
+    let s : p .start ≡ q .start = omega arith in
+    let n : p .length ≡ q .length = omega arith in
+    λ i. record { start = s i; length = n i }
+
+abbrev StateOk : {A : Type 0} → (A → Type 0) → State A → Type 0
+StateOk Ok absent = Unit {0}
+StateOk Ok cancelled = Unit {0}
+StateOk Ok (present x) = Ok x
+
+module _ {A : Type 0} (Ok : A → Type 0) (code : A → ℕ) (below : (x : A) → Ok x → code x < 2 ^ 48) where
+  state-below : (s : State A) → StateOk Ok s → stateCode code s < 2 ^ 56
+  unfolding stateCode
+  state-below absent h = omega arith
+  state-below cancelled h = omega arith
+  state-below (present x) h = omega (arith, below x h)
+
+  state-tells : ((x y : A) → Ok x → Ok y → code x ≡ code y → x ≡ y)
+      → (s t : State A) → StateOk Ok s → StateOk Ok t → stateCode code s ≡ stateCode code t → s ≡ t
+  unfolding stateCode
+  state-tells tell absent absent h k e = refl
+  state-tells tell absent cancelled h k e = absurd (let z : ⊥ = omega arith in z)
+  state-tells tell absent (present y) h k e = absurd (let z : ⊥ = omega arith in z)
+  state-tells tell cancelled absent h k e = absurd (let z : ⊥ = omega arith in z)
+  state-tells tell cancelled cancelled h k e = refl
+  state-tells tell cancelled (present y) h k e = absurd (let z : ⊥ = omega (arith, below y k) in z)
+  state-tells tell (present x) absent h k e = absurd (let z : ⊥ = omega arith in z)
+  state-tells tell (present x) cancelled h k e = absurd (let z : ⊥ = omega (arith, below x h) in z)
+  state-tells tell (present x) (present y) h k e = ap present (tell x y h k (omega arith))
+
+-- ---- each enum's answers fit
+
+file-some : (r : FileRefusal) → 1 ≤ fileNumber r
+file-some R.Length = omega arith
+file-some R.Magic = omega arith
+file-some R.Counts = omega arith
+file-some R.Names = omega arith
+file-some R.Boolean = omega arith
+file-some R.Number = omega arith
+file-some R.Slot = omega arith
+
+text-some : (r : TextRefusal) → 1 ≤ textNumber r
+text-some T.Malformed = omega arith
+text-some T.Unknown = omega arith
+text-some T.Use = omega arith
+text-some T.Limit = omega arith
+
+opened-fits : (r : Opened) → Any r → Fits Any (saysOpened r)
+opened-fits (O.Entry t b) h = tt
+opened-fits (O.Refused r) h = (file-some r, omega arith)
+
+names-fits : (r : Names) → NamesWithin r → Fits PartWithin (saysNames r)
+names-fits (M.At p) h = h
+names-fits M.Refused h = omega arith
+
+boolean-fits : (r : BooleanState) → Any r → Fits (StateOk Any) (saysBoolean r)
+boolean-fits B.Absent h = tt
+boolean-fits B.Cancelled h = tt
+boolean-fits B.Present h = tt
+boolean-fits B.Refused h = omega arith
+
+number-fits : (r : NumberState) → NumberWithin r → Fits (StateOk InWord) (saysNumber r)
+number-fits N.Absent h = tt
+number-fits N.Cancelled h = tt
+number-fits (N.Present n) h = h
+number-fits N.Refused h = omega arith
+
+string-fits : (r : StringState) → StringWithin r → Fits (StateOk PartWithin) (saysString r)
+string-fits S.Absent h = tt
+string-fits S.Cancelled h = tt
+string-fits (S.Present p) h = h
+string-fits S.Refused h = omega arith
+
+written-fits : (r : Written) → WrittenWithin r → Fits InFile (saysWritten r)
+written-fits (W.File n) h = h
+written-fits W.Counts h = omega arith
+written-fits W.Names h = omega arith
+written-fits W.Lent h = omega arith
+written-fits W.Limit h = omega arith
+written-fits W.Size h = omega arith
+written-fits (W.Room n) h = omega arith
+
+merged-fits : (r : Merged) → MergedWithin r → Fits InFile (saysMerged r)
+merged-fits (G.File n) h = h
+merged-fits (G.Refused r) h = (file-some r, omega arith)
+merged-fits G.Size h = omega arith
+merged-fits (G.Room n) h = omega arith
+
+compiled-fits : (r : Compiled) → Bounded (saysCompiled r) → Fits InFile (saysCompiled r)
+compiled-fits (C.File n) h = h
+compiled-fits C.Length h = omega arith
+compiled-fits (C.Refused r p) h = (text-some r, omega arith)
+compiled-fits C.Size h = omega arith
+compiled-fits (C.Room n) h = omega arith
+
+name-fits : (r : Name) → NameWithin r → Fits (λ w. w < 2 ^ 56) (saysName r)
+name-fits (A.Packed w) h = omega arith
+name-fits A.Beyond h = omega arith
+
+-- ---- names
+
+short : List ℕ → Bool
+short n = ltb (packed n) (2 ^ 56)
+
+short-names : (k : Kind) → all short (namesOf k) ≡ true
+unfolding short packed word booleanNames numberNames stringNames named parted ascii
+short-names K.Boolean = refl
+short-names K.Number = refl
+short-names K.String = refl
+
+names-below : (k : Kind) (p : Place) → isGiven (naming k p) ≡ true → numbered (λ w. w) (naming k p) < 2 ^ 56
+unfolding naming numbered short
+names-below k p = by-known (knows (length (namesOf k)) p) refl
+  where
+    by-known : (b : Bool) → knows (length (namesOf k)) p ≡ b
+        → isGiven (if b then gives (packed (getD (namesOf k) (p .0) [])) else refused 17 []) ≡ true
+        → numbered (λ w. w) (if b then gives (packed (getD (namesOf k) (p .0) [])) else refused 17 []) < 2 ^ 56
+    by-known true q e = ltb-true _ _ (all-at short (namesOf k) (p .0) [] (short-names k) (ltb-true _ _ q))
+    by-known false q e = true-false (sym e)
+
+-- ---- expansion, whose values go through remainders
+
+abbrev Some : {A : Type 0} → Answer A → Type 0
+Some (refused n v) = 1 ≤ n
+Some (gives x) = Unit {0}
+
+expansion-some : (r : Expansion) → Some (saysExpansion r)
+expansion-some (E.Done n k) = tt
+expansion-some E.Place = omega arith
+expansion-some E.Length = omega arith
+expansion-some (E.Malformed i) = omega arith
+expansion-some (E.Empty i) = omega arith
+expansion-some (E.Full i) = omega arith
+expansion-some (E.Room n) = omega arith
+
+expansion-number : (a : Answer Counts) → expansionNumber a / 2 ^ 56 ≡ numberOf a
+unfolding expansionNumber
+expansion-number (refused n v) = omega arith
+expansion-number (gives c) = omega arith
+
+expansion-below : (a : Answer Counts) → isGiven a ≡ true → expansionNumber a < 2 ^ 56
+unfolding expansionNumber
+expansion-below (refused n v) e = true-false (sym e)
+expansion-below (gives c) e = omega arith
+
+expansion-above : (a : Answer Counts) → Some a → isGiven a ≡ false → 2 ^ 56 ≤ expansionNumber a
+unfolding expansionNumber
+expansion-above (refused n v) h e = omega arith
+expansion-above (gives c) h e = true-false e
+
+expanded : TopByte saysExpansion Any expansionNumber
+expanded = record {
+  top = λ r h. expansion-number (saysExpansion r);
+  success = λ r h e. omega (arith, expansion-below (saysExpansion r) e);
+  refusal = λ r h e. omega (arith, expansion-above (saysExpansion r) (expansion-some r) e);
+}
+
+abbrev countsCode : Counts → ℕ
+countsCode c = c .steps * 2 ^ 24 + c .length
+
+abbrev CountsOk : Counts → Type 0
+CountsOk c = (c .length < 2 ^ 24) × (c .steps < 2 ^ 24)
+
+expansion-fits : (r : Expansion) → ExpansionWithin r → Fits CountsOk (saysExpansion r)
+expansion-fits (E.Done n k) h = omega arith
+expansion-fits E.Place h = omega arith
+expansion-fits E.Length h = omega arith
+expansion-fits (E.Malformed i) h = omega arith
+expansion-fits (E.Empty i) h = omega arith
+expansion-fits (E.Full i) h = omega arith
+expansion-fits (E.Room n) h = omega arith
+
+counts-tell : (c d : Counts) → CountsOk c → CountsOk d → countsCode c ≡ countsCode d → c ≡ d
+counts-tell c d h k e =
+    let n : c .length ≡ d .length = omega arith in
+    let s : c .steps ≡ d .steps = omega arith in
+    λ i. record { length = n i; steps = s i }
+
+-- within the bounds no remainder changes anything
+no-remainder : (a : Answer Counts) → Fits CountsOk a → expansionNumber a ≡ numbered countsCode a
+unfolding expansionNumber numbered
+no-remainder (refused n v) h = omega arith
+no-remainder (gives c) h = omega arith
+
+expansion-tells : Tells saysExpansion ExpansionWithin expansionNumber
+expansion-tells = record {
+  byte = record {
+    top = λ r h. expanded .top r tt;
+    success = λ r h. expanded .success r tt;
+    refusal = λ r h. expanded .refusal r tt;
+  };
+  tells = λ r s v w e.
+      let p = no-remainder (saysExpansion r) (expansion-fits r v) in
+      let q = no-remainder (saysExpansion s) (expansion-fits s w) in
+      counted .tells r s v w (cc);
+}
+  where
+    counted : Tells saysExpansion ExpansionWithin (numbered countsCode)
+    counted =
+        telling saysExpansion ExpansionWithin CountsOk countsCode expansion-fits (λ c h. omega arith) counts-tell
+        back.expansion back.expansion-back
+
+-- ---- opening
+
+opened-tells : (r s : Opened) → isGiven (saysOpened r) ≡ false
+    → numbered none (saysOpened r) ≡ numbered none (saysOpened s) → r ≡ s
+unfolding numbered
+opened-tells (O.Entry t b) s g e = true-false g
+opened-tells (O.Refused r) (O.Entry t b) g e = absurd (let z : ⊥ = omega (arith, file-some r) in z)
+opened-tells (O.Refused r) (O.Refused s) g e = ap O.Refused (distinct .file r s (omega arith))
+
+array-tells : Injective openingArray
+array-tells o p e = λ i. record {
+  tables = record {
+    booleans = at 0 i;
+    numbers = at 1 i;
+    strings = at 2 i;
+    «booleans_at» = at 3 i;
+    «numbers_at» = at 4 i;
+    «strings_at» = at 5 i;
+    «table_at» = at 6 i;
+  };
+  beyond = record { booleans = at 7 i; numbers = at 8 i; strings = at 9 i };
+}
+  where
+    at : (k : ℕ) → getD (openingArray o) k 0 ≡ getD (openingArray p) k 0
+    at k = ap (λ (a : List ℕ). getD a k 0) e
+
+-- ---- all of them
+
+pub numbers : Numbers
+numbers =
+    record {
+      names =
+          telling saysNames NamesWithin PartWithin partCode names-fits (λ p h. omega arith) part-tells
+          back.names back.names-back;
+      boolean =
+          telling saysBoolean Any (StateOk Any) booleanCode boolean-fits (state-below Any none (λ x h. omega arith))
+          (state-tells Any none (λ x h. omega arith) (λ x y h k e. refl)) back.boolean back.boolean-back;
+      number =
+          telling saysNumber NumberWithin (StateOk InWord) numberCode number-fits
+          (state-below InWord (λ n. n) (λ x h. omega arith))
+          (state-tells InWord (λ n. n) (λ x h. omega arith) (λ x y h k e. e)) back.number back.number-back;
+      string =
+          telling saysString StringWithin (StateOk PartWithin) stringCode string-fits
+          (state-below PartWithin partCode part-below) (state-tells PartWithin partCode part-below part-tells)
+          back.string back.string-back;
+      written =
+          telling saysWritten WrittenWithin InFile (λ n. n) written-fits in-file-below (λ x y h k e. e)
+          back.written back.written-back;
+      merged =
+          telling saysMerged MergedWithin InFile (λ n. n) merged-fits in-file-below (λ x y h k e. e)
+          back.merged back.merged-back;
+      compiled =
+          telling saysCompiled (λ r. Bounded (saysCompiled r)) InFile (λ n. n) compiled-fits in-file-below
+          (λ x y h k e. e) back.compiled back.compiled-back;
+      name =
+          telling saysName NameWithin (λ w. w < 2 ^ 56) (λ w. w) name-fits (λ w h. h) (λ x y h k e. e)
+          back.name back.name-back;
+      listed = names-below;
+      expanded = expanded;
+      expansion = expansion-tells;
+      opened = top-byte saysOpened Any Any none opened-fits (λ x h. omega arith);
+      array = array-tells;
+      refusal = opened-tells;
+    }

@@ -1,0 +1,82 @@
+-- What a number for C tells (c_numbers/specs/Numbers.antt): its top byte is document 01's number, so that a success is
+-- below 2 ^ 56 and a refusal isn't, and equal numbers come from equal answers.
+-- Statements only: proofs/Numbers.antt has the proof. Assumes nothing.
+use mathlib.Core.Path.{_≡_}
+use mathlib.Core.Bool.{true, false}
+use Prim.Native.Nat.{ℕ, _<_, _≤_, _/_, _^_}
+use Rattle.base.specs.Answer.{Answer, isGiven, numberOf}
+use Rattle.edition.specs.declared.Kind.{Kind}
+use Rattle.edition.specs.declared.Place.{Place}
+use Rattle.entry.specs.declared.Opened.{Opened}
+use Rattle.entry.specs.declared.NumberState.{NumberState}
+use Rattle.entry.specs.declared.NumberState.the-variants as N
+use Rattle.entry.specs.Says.{saysOpened, saysNames, saysBoolean, saysNumber, saysString, saysWritten, saysMerged}
+use Rattle.names.specs.declared.Name.{Name}
+use Rattle.names.specs.declared.Name.the-variants as A
+use Rattle.names.specs.Naming.{naming, saysName}
+use Rattle.text.specs.Compiling.{saysCompiled}
+use Rattle.text_laws.specs.Values.{Bounded}
+use Rattle.expansion.specs.declared.Expansion.{Expansion}
+use Rattle.expansion.specs.declared.Expansion.the-variants as E
+use Rattle.expansion.specs.Expanding.{saysExpansion}
+use Rattle.c_numbers.specs.Numbers.{numbered, none, booleanCode, numberCode, partCode, stringCode, openingArray}
+use Rattle.c_numbers.specs.Numbers.{expansionNumber, NamesWithin, StringWithin, WrittenWithin, MergedWithin}
+use Rattle.answer_laws.specs.Distinct.{Injective}
+
+-- ---- bounds for answers whose contracts in c_numbers ask none
+
+abbrev pub Any : {R : Type 0} → R → Type 0
+Any r = Unit {0}
+
+-- a number's value is a u32
+abbrev pub NumberWithin : NumberState → Type 0
+NumberWithin N.Absent = Unit {0}
+NumberWithin N.Cancelled = Unit {0}
+NumberWithin (N.Present n) = n < 2 ^ 32
+NumberWithin N.Refused = Unit {0}
+
+-- a name of at most seven bytes, as all names of the three lists are (`listed`, below)
+abbrev pub NameWithin : Name → Type 0
+NameWithin (A.Packed w) = w < 2 ^ 56
+NameWithin A.Beyond = Unit {0}
+
+-- what no remainder of `expansionNumber` changes
+abbrev pub ExpansionWithin : Expansion → Type 0
+ExpansionWithin (E.Done n k) = (n < 2 ^ 24) × (k < 2 ^ 24)
+ExpansionWithin E.Place = Unit {0}
+ExpansionWithin E.Length = Unit {0}
+ExpansionWithin (E.Malformed i) = i < 2 ^ 56
+ExpansionWithin (E.Empty i) = i < 2 ^ 56
+ExpansionWithin (E.Full i) = i < 2 ^ 56
+ExpansionWithin (E.Room n) = n < 2 ^ 56
+
+-- ---- statements
+
+-- the number of each answer r that lies within its bounds
+pub record TopByte {R A : Type 0} (says : R → Answer A) (Within : R → Type 0) (number : Answer A → ℕ) : Type 0 where
+  pub top : (r : R) → Within r → number (says r) / 2 ^ 56 ≡ numberOf (says r)
+  pub success : (r : R) → Within r → isGiven (says r) ≡ true → number (says r) < 2 ^ 56
+  pub refusal : (r : R) → Within r → isGiven (says r) ≡ false → 2 ^ 56 ≤ number (says r)
+
+pub record Tells {R A : Type 0} (says : R → Answer A) (Within : R → Type 0) (number : Answer A → ℕ) : Type 0 where
+  pub byte : TopByte says Within number
+  pub tells : (r s : R) → Within r → Within s → number (says r) ≡ number (says s) → r ≡ s
+
+pub record Numbers : Type 0 where
+  pub names : Tells saysNames NamesWithin (numbered partCode)
+  pub boolean : Tells saysBoolean Any (numbered booleanCode)
+  pub number : Tells saysNumber NumberWithin (numbered numberCode)
+  pub string : Tells saysString StringWithin (numbered stringCode)
+  pub written : Tells saysWritten WrittenWithin (numbered (λ n. n))
+  pub merged : Tells saysMerged MergedWithin (numbered (λ n. n))
+  pub compiled : Tells saysCompiled (λ r. Bounded (saysCompiled r)) (numbered (λ n. n))
+  pub name : Tells saysName NameWithin (numbered (λ w. w))
+  pub listed : (k : Kind) (p : Place) → isGiven (naming k p) ≡ true → numbered (λ w. w) (naming k p) < 2 ^ 56
+  -- the top byte is right of every expansion; within the bounds the number tells it
+  pub expanded : TopByte saysExpansion Any expansionNumber
+  pub expansion : Tells saysExpansion ExpansionWithin expansionNumber
+  -- opening answers 0 and fills an array, which tells what it gives; a refusal's number tells the refusal
+  pub opened : TopByte saysOpened Any (numbered none)
+  pub array : Injective openingArray
+  pub refusal : (r s : Opened) → isGiven (saysOpened r) ≡ false
+      → numbered none (saysOpened r) ≡ numbered none (saysOpened s) → r ≡ s

@@ -1,0 +1,5 @@
+pub mod IfLaws
+pub mod LoopLaws
+pub mod OverwriteLaws
+pub mod ScanLaws
+pub mod TabulateLaws

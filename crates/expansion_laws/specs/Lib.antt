@@ -1,0 +1,6 @@
+pub mod Digits
+pub mod Forms
+pub mod Passes
+pub mod Steps
+pub mod Runs
+pub mod Ends

@@ -1,0 +1,1 @@
+// Laws of the form, the digits and the run of a parameterized string (expansion/specs). No code: see specs/.
