@@ -1,4 +1,4 @@
--- A loop as a definition, and its laws. One turn goes on with another value or stops with a result; the number m
+-- A loop as a definition. One turn goes on with another value or stops with a result; the number m
 -- falls with each turn that goes on, so that the loop is the repetition of its turn, and d stands for no result.
 -- Assumes nothing.
 use Prim.Native.Nat.{ℕ, zero, suc}

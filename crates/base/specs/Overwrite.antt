@@ -1,4 +1,4 @@
--- A list with other elements from a place on, and the laws that a writer's steps follow.
+-- A list with other elements from a place on.
 -- Assumes nothing.
 use mathlib.Core.List.{List, _++_}
 use Prim.Native.Nat.{ℕ, _+_, _-_}

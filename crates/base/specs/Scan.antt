@@ -1,4 +1,4 @@
--- The first place that fails a test, and its laws.
+-- The first place that fails a test.
 -- Assumes nothing.
 use mathlib.Core.Bool.{Bool}
 use Prim.Native.Nat.{ℕ, zero, suc, _+_, _-_}

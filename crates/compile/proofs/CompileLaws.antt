@@ -16,21 +16,21 @@ use Rattle.base.specs.Answer.{Answer, refused, Leaves}
 use Rattle.entry.specs.Reading.{Entry}
 use Rattle.entry.specs.Writing.{Handed, stateOf}
 use Rattle.entry.specs.Handed.{handed}
-use Rattle.write_laws.proofs.AnswerLaws.{edition-facts}
 use Rattle.text.specs.declared.Header.{Header}
 use Rattle.text.specs.declared.Header.the-variants as H
 use Rattle.text.specs.declared.Line.{Line}
 use Rattle.text.specs.declared.TextRefusal.{TextRefusal}
 use Rattle.text.specs.Bytes.{textMost}
-use Rattle.text.specs.Strings.{readAt, bytesOf}
+use Rattle.text.specs.Strings.{readAt, readBytes}
 use Rattle.text.specs.Lines.{lineAt}
 use Rattle.text.specs.Heading.{namesTo, headerAt}
 use Rattle.text.specs.Describing.{bare, describedFrom, headed, begun, describing}
-use Rattle.text.specs.Compiling.{fitting, fitted, compiling, textNumber}
+use Rattle.text.specs.Compiling.{fittingNamed, fitted, compiling, textNumber}
 use Rattle.walk_fields.specs.declared.Walked.{Walked}
 use Rattle.walk_fields.specs.declared.Walked.the-variants as W
 use Rattle.compile_laws.specs.Held.{textEntry, Holds}
 use Rattle.walk_fields.specs.Walks.{walkedAs, Walks}
+use Rattle.entry_laws.specs.Merge.{edition-counts}
 
 -- ---- the arrays at first: all states are absent
 
@@ -69,12 +69,12 @@ module _ (e : Edition) (t : List ℕ) where
   cleared-entry n =
       let b = all-absent (λ i. tt) (zeros 64) (e .booleans) (zero-at 64) in
       let m = all-absent (λ i. getD (zeros 64) i 0) (zeros 64) (e .numbers) (zero-at 64) in
-      let s = all-absent (λ i. bytesOf (readAt t (getD (replicate 512 unset) i 0))) (zeros 512) (e .strings) (zero-at 512) in
+      let s = all-absent (λ i. readBytes (readAt t (getD (replicate 512 unset) i 0))) (zeros 512) (e .strings) (zero-at 512) in
       λ i. record { names = n; booleans = b i; numbers = m i; strings = s i }
 
   pub cleared-holds : okEdition e ≡ true → Holds e (cleared [])
   cleared-holds o =
-      let f = edition-facts e o in
+      let f = edition-counts e o in
       record {
         given =
             record {
@@ -116,7 +116,7 @@ module _ (e : Edition) (t : List ℕ) (i c : ℕ) (after : List ℕ → Handed) 
       ∙ ap (walkedAs (textEntry e (after (namesTo t i c)))) q
 
   pub fields-done : r ≡ W.Done → (b d : List ℕ) (says : Answer ℕ)
-      → Leaves (fitting (length b) (textEntry e (after (namesTo t i c)))) b d says
+      → Leaves (fittingNamed (length b) (textEntry e (after (namesTo t i c)))) b d says
       → Leaves (fitted (length b) (headed e t i (H.Right c))) b d says
   fields-done q b d says l = subst (λ (a : Answer Entry). Leaves (fitted (length b) a) b d says) (sym (fields-come W.Done q)) l
 

@@ -22,7 +22,7 @@ use Rattle.entry.specs.Writing.{Handed, stateOf}
 use Rattle.entry.specs.Merging.{over}
 use Rattle.text.specs.declared.Said.{Said}
 use Rattle.text.specs.declared.Said.the-variants as S
-use Rattle.text.specs.Strings.{readAt, bytesOf}
+use Rattle.text.specs.Strings.{readAt, readBytes}
 use Rattle.text.specs.Describing.{standing, with-saying}
 use Rattle.judge.specs.Judged.{sayingSaid, SaidIn}
 use Rattle.entry.specs.Handed.{handed}
@@ -164,7 +164,7 @@ module _ (e : Edition) (bk nk nv sk ss sl t : List ℕ) (h : Holds e (handed [] 
           names = n;
           booleans = keep-states (λ (x : ℕ). tt) bk bk q k k (e .booleans) l (g .booleans) (g .booleans) i;
           numbers = tabulate (λ j. stateOf (getD nk j 0) (getD nv j 0)) (e .numbers);
-          strings = tabulate (λ j. stateOf (getD sk j 0) (bytesOf (readAt t (getD ss j 0)))) (e .strings);
+          strings = tabulate (λ j. stateOf (getD sk j 0) (readBytes (readAt t (getD ss j 0)))) (e .strings);
         };
       }))
 
@@ -193,7 +193,7 @@ module _ (e : Edition) (bk nk nv sk ss sl t : List ℕ) (h : Holds e (handed [] 
           names = n;
           booleans = tabulate (λ j. stateOf (getD bk j 0) tt) (e .booleans);
           numbers = keep-states (λ (x : ℕ). x) nk nv q k v (e .numbers) l (g .numberKinds) (g .numberValues) i;
-          strings = tabulate (λ j. stateOf (getD sk j 0) (bytesOf (readAt t (getD ss j 0)))) (e .strings);
+          strings = tabulate (λ j. stateOf (getD sk j 0) (readBytes (readAt t (getD ss j 0)))) (e .strings);
         };
       })))
 
@@ -224,6 +224,6 @@ module _ (e : Edition) (bk nk nv sk ss sl t : List ℕ) (h : Holds e (handed [] 
           names = n;
           booleans = tabulate (λ j. stateOf (getD bk j 0) tt) (e .booleans);
           numbers = tabulate (λ j. stateOf (getD nk j 0) (getD nv j 0)) (e .numbers);
-          strings = keep-states (λ (x : ℕ). bytesOf (readAt t x)) sk ss q k s (e .strings) l (g .stringKinds) (g .stringStarts) i;
+          strings = keep-states (λ (x : ℕ). readBytes (readAt t x)) sk ss q k s (e .strings) l (g .stringKinds) (g .stringStarts) i;
         };
       }))))

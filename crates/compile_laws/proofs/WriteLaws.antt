@@ -25,16 +25,17 @@ use Rattle.put.proofs.TableLaws.{map-stateOf, state-other, part-present}
 use Rattle.entry.specs.Handed.{frontHanded}
 use Rattle.write_laws.specs.File.{sizesHanded, FrontFits}
 use Rattle.write_laws.proofs.FileLaws.{length-with}
-use Rattle.write_laws.proofs.AnswerLaws.{edition-facts, total-most}
-use Rattle.text.specs.Strings.{readAt, bytesOf}
-use Rattle.text.specs.Compiling.{fitting}
+use Rattle.write_laws.proofs.AnswerLaws.{total-most}
+use Rattle.text.specs.Strings.{readAt, readBytes}
+use Rattle.text.specs.Compiling.{fittingNamed}
 use Rattle.judge.specs.Judged.{StandsAt}
 use Rattle.compile_laws.specs.Held.{textString, textEntry, StringsStand, Holds}
+use Rattle.entry_laws.specs.Merge.{edition-counts}
 
 -- strings that stand in the text are of their kinds and lengths
 pub text-described : (h : Handed) (n : ℕ) → StringsStand h n → HasLengths (h .stringKinds) (h .stringLengths) (textString h) n
 text-described h n s i l =
-    map-stateOf length (getD (h .stringKinds) i 0) (bytesOf (readAt (h .lent) (getD (h .stringStarts) i 0)))
+    map-stateOf length (getD (h .stringKinds) i 0) (readBytes (readAt (h .lent) (getD (h .stringStarts) i 0)))
     ∙ elim (ℕ-discrete (getD (h .stringKinds) i 0) 1) [
       | yes e ↦ ap (stateOf (getD (h .stringKinds) i 0)) (sym (s i l e .0 .counted))
       | no e ↦ state-other (getD (h .stringKinds) i 0) _ _ e
@@ -52,7 +53,7 @@ module _ (e : Edition) (h : Handed) (o : okEdition e ≡ true) (k : Holds e h) w
   -- no sum on the way to the file's length wraps
   pub size-small : length (h .names) ≤ givenNamesMost → sizeOf (sizesHanded e h) < 1000000
   size-small n =
-      let c = edition-facts e o in
+      let c = edition-counts e o in
       let r = total-most (h .stringKinds) (h .stringLengths) (e .strings) (λ i l q. k .strings i l q .1) in
       omega arith
 
@@ -75,22 +76,22 @@ module _ (e : Edition) (h : Handed) (o : okEdition e ≡ true) (k : Holds e h) w
   -- ---- the answers, in the order of refusal
 
   module _ (b : List ℕ) where
-    pub refuse-total : givenNamesMost < length (h .names) → Leaves (fitting (length b) (textEntry e h)) b b (refused 13 (0 ∷ []))
-    unfolding fitting
+    pub refuse-total : givenNamesMost < length (h .names) → Leaves (fittingNamed (length b) (textEntry e h)) b b (refused 13 (0 ∷ []))
+    unfolding fittingNamed
     refuse-total l = (rw (lt-leb _ _ l), rw (lt-leb _ _ l))
 
     module _ (t : length (h .names) ≤ givenNamesMost) (n : ℕ) (w : n ≡ sizeOf (sizesHanded e h)) where
       m : length (encode (textEntry e h)) ≡ n
       m = length-text ∙ sym w
 
-      pub refuse-size : fileMost < n → Leaves (fitting (length b) (textEntry e h)) b b (refused 9 [])
-      unfolding fitting
+      pub refuse-size : fileMost < n → Leaves (fittingNamed (length b) (textEntry e h)) b b (refused 9 [])
+      unfolding fittingNamed
       refuse-size l = (rw (le-leb _ _ t, m, lt-leb _ _ l), rw (le-leb _ _ t, m, lt-leb _ _ l))
 
-      pub refuse-room : n ≤ fileMost → length b < n → Leaves (fitting (length b) (textEntry e h)) b b (refused 8 (n ∷ []))
-      unfolding fitting
+      pub refuse-room : n ≤ fileMost → length b < n → Leaves (fittingNamed (length b) (textEntry e h)) b b (refused 8 (n ∷ []))
+      unfolding fittingNamed
       refuse-room l r = (rw (le-leb _ _ t, m, le-leb _ _ l, lt-leb _ _ r), rw (le-leb _ _ t, m, le-leb _ _ l, lt-leb _ _ r))
 
-      pub give-file : n ≤ fileMost → n ≤ length b → (c : List ℕ) → c ≡ putAt b 0 (encode (textEntry e h)) → Leaves (fitting (length b) (textEntry e h)) b c (gives n)
-      unfolding fitting
+      pub give-file : n ≤ fileMost → n ≤ length b → (c : List ℕ) → c ≡ putAt b 0 (encode (textEntry e h)) → Leaves (fittingNamed (length b) (textEntry e h)) b c (gives n)
+      unfolding fittingNamed
       give-file l r c q = (rw (le-leb _ _ t, m, le-leb _ _ l, le-leb _ _ r) (ap gives (sym m)), rw (le-leb _ _ t, m, le-leb _ _ l, le-leb _ _ r) q)

@@ -15,13 +15,13 @@ use Rattle.entry.specs.Writing.{Handed, stateOf}
 use Rattle.put.specs.Table.{total}
 use Rattle.write_laws.specs.File.{Given, entryWith}
 use Rattle.text.specs.declared.Said.{Said}
-use Rattle.text.specs.Strings.{readAt, bytesOf}
+use Rattle.text.specs.Strings.{readAt, readBytes}
 use Rattle.text.specs.Describing.{with-saying}
 use Rattle.judge.specs.Judged.{sayingSaid, StandsAt}
 
 -- the text is what is lent
 abbrev pub textString : Handed → ℕ → State (List ℕ)
-textString h i = stateOf (getD (h .stringKinds) i 0) (bytesOf (readAt (h .lent) (getD (h .stringStarts) i 0)))
+textString h i = stateOf (getD (h .stringKinds) i 0) (readBytes (readAt (h .lent) (getD (h .stringStarts) i 0)))
 
 abbrev pub textEntry : Edition → Handed → Entry
 textEntry e h = entryWith e h (textString h)

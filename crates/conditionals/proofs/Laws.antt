@@ -24,7 +24,7 @@ use Rattle.conditionals.specs.declared.Turn.the-variants.{Go, Stop}
 use Rattle.conditionals.specs.declared.Walked.the-variants as W
 use Rattle.conditionals.specs.declared.Passed.{Passed}
 use Rattle.conditionals.specs.declared.Passed.the-variants as P
-use Rattle.conditionals.specs.Walk.{nestedMost, nested, formLeft, PassedAs, isPlain, plainEnd, endsAt, innerAfter, Came, WalkedAs}
+use Rattle.conditionals.specs.Walk.{nestedMost, nested, formLeft, PassedAs, isPlainByte, plainEnd, endsAt, innerAfter, Came, WalkedAs}
 use Rattle.expansion_laws.specs.Forms.{class-on}
 use Rattle.expansion_laws.specs.Passes.{passedTo, passed-step, passed-end}
 use Rattle.conditionals.proofs.WalkLaws.{keptOf, kept-if, kept-go, left-go, left-stop, left-end, nested-most}
@@ -142,7 +142,7 @@ module _ (s : List ℕ) (from before : ℕ) (ends elses : Bool) (i k d : ℕ) (a
 
 -- ---- bytes that are items by themselves, and `%;`
 
-class-plain : (s : List ℕ) (i : ℕ) → isPlain (byteAt s i) ≡ true → classAt s i ≡ record { class = Plain; next = i + 1 }
+class-plain : (s : List ℕ) (i : ℕ) → isPlainByte (byteAt s i) ≡ true → classAt s i ≡ record { class = Plain; next = i + 1 }
 unfolding classAt classOf itemAt
 class-plain s i p =
     rw (not-true (eqb (byteAt s i) 0) (and-left (not (eqb (byteAt s i) 0)) (not (eqb (byteAt s i) 37)) p), not-true (eqb (byteAt s i) 37) (and-right (not (eqb (byteAt s i) 0)) (not (eqb (byteAt s i) 37)) p))
@@ -156,13 +156,13 @@ class-end s i t =
     rw (p, q, n)
 
 -- what each plain byte leaves as it is, all of them do
-plain-same {ℓ} : {A : Type ℓ} (s : List ℕ) (g : ℕ → A) → ((i : ℕ) → i < length s → isPlain (byteAt s i) ≡ true → g i ≡ g (i + 1))
-    → (k i : ℕ) → k ≤ length s - i → g i ≡ g (scan (λ j. isPlain (byteAt s j)) i k)
+plain-same {ℓ} : {A : Type ℓ} (s : List ℕ) (g : ℕ → A) → ((i : ℕ) → i < length s → isPlainByte (byteAt s i) ≡ true → g i ≡ g (i + 1))
+    → (k i : ℕ) → k ≤ length s - i → g i ≡ g (scan (λ j. isPlainByte (byteAt s j)) i k)
 unfolding scan
 plain-same s g h zero i l = refl
-plain-same s g h (suc k) i l = by-test (isPlain (byteAt s i)) refl (plain-same s g h k (suc i) (omega arith))
+plain-same s g h (suc k) i l = by-test (isPlainByte (byteAt s i)) refl (plain-same s g h k (suc i) (omega arith))
   where
-    by-test : (t : Bool) → isPlain (byteAt s i) ≡ t → g (suc i) ≡ g (scan (λ j. isPlain (byteAt s j)) (suc i) k) → g i ≡ g (if t then scan (λ j. isPlain (byteAt s j)) (suc i) k else i)
+    by-test : (t : Bool) → isPlainByte (byteAt s i) ≡ t → g (suc i) ≡ g (scan (λ j. isPlainByte (byteAt s j)) (suc i) k) → g i ≡ g (if t then scan (λ j. isPlainByte (byteAt s j)) (suc i) k else i)
     by-test true p r = h i (omega arith) p ∙ ap g (let y : i + 1 ≡ suc i = omega arith in y) ∙ r
     by-test false p r = refl
 
@@ -170,24 +170,24 @@ plain-left : (s : List ℕ) (i k : ℕ) → formLeft s i k ≡ formLeft s (plain
 unfolding nested
 plain-left s i k = plain-same s (λ j. formLeft s j k) step (length s - i) i (omega arith)
   where
-    step : (j : ℕ) → j < length s → isPlain (byteAt s j) ≡ true → formLeft s j k ≡ formLeft s (j + 1) k
+    step : (j : ℕ) → j < length s → isPlainByte (byteAt s j) ≡ true → formLeft s j k ≡ formLeft s (j + 1) k
     step j h p = left-go s j k k h (rw (class-plain s j p)) ∙ rw (class-plain s j p)
 
 plain-pass : (e : Bool) (s : List ℕ) (i : ℕ) → passed (length s) e s i 0 ≡ passed (length s) e s (plainEnd s i) 0
 unfolding passing
 plain-pass e s i = plain-same s (λ j. passed (length s) e s j 0) step (length s - i) i (omega arith)
   where
-    step : (j : ℕ) → j < length s → isPlain (byteAt s j) ≡ true → passed (length s) e s j 0 ≡ passed (length s) e s (j + 1) 0
+    step : (j : ℕ) → j < length s → isPlainByte (byteAt s j) ≡ true → passed (length s) e s j 0 ≡ passed (length s) e s (j + 1) 0
     step j h p = pass-go e s j 0 0 h (rw (class-plain s j p)) ∙ rw (class-plain s j p)
 
 -- the scan for their end
 pub plain-more : (s : List ℕ) (i : ℕ) → i < length s → (byteAt s i ≡ 37 → ⊥) → (byteAt s i ≡ 0 → ⊥) → plainEnd s i ≡ plainEnd s (i + 1)
 plain-more s i h p q =
     let e : length s - i - 1 ≡ length s - (i + 1) = omega arith in
-    scan-pass (λ k. isPlain (byteAt s k)) i (length s - i) (rw (ne-eqb (byteAt s i) 0 q, ne-eqb (byteAt s i) 37 p)) (omega arith) ∙ rw e
+    scan-pass (λ k. isPlainByte (byteAt s k)) i (length s - i) (rw (ne-eqb (byteAt s i) 0 q, ne-eqb (byteAt s i) 37 p)) (omega arith) ∙ rw e
 
-pub plain-stop : (s : List ℕ) (i : ℕ) → i < length s → isPlain (byteAt s i) ≡ false → plainEnd s i ≡ i
-plain-stop s i h p = scan-stop (λ k. isPlain (byteAt s k)) i (length s - i) p (omega arith)
+pub plain-stop : (s : List ℕ) (i : ℕ) → i < length s → isPlainByte (byteAt s i) ≡ false → plainEnd s i ≡ i
+plain-stop s i h p = scan-stop (λ k. isPlainByte (byteAt s k)) i (length s - i) p (omega arith)
 
 pub plain-none : (s : List ℕ) (i : ℕ) → length s ≤ i → plainEnd s i ≡ i
 unfolding scan
@@ -199,7 +199,7 @@ plain-none s i h = let e : length s - i ≡ 0 = omega arith in rw e
 pub pass-plain : (e : Bool) (s : List ℕ) (i k j : ℕ) (r : Passed) → j ≡ plainEnd s i → PassedAs s j k e r → PassedAs s i k e r
 pass-plain e s i k j (P.To n k′) q h = (
   plain-pass e s i ∙ rw q at (h .0),
-  (plain-left s i k ∙ rw q at (h .1 .0), (omega (arith, scan-ge (λ m. isPlain (byteAt s m)) i (length s - i), q, h .1 .1 .0), h .1 .1 .1)),
+  (plain-left s i k ∙ rw q at (h .1 .0), (omega (arith, scan-ge (λ m. isPlainByte (byteAt s m)) i (length s - i), q, h .1 .1 .0), h .1 .1 .1)),
 )
 pass-plain e s i k j (P.Wrong p) q h = plain-left s i k ∙ rw q at h
 

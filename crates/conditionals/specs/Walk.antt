@@ -60,11 +60,11 @@ PassedAs s i k elses (P.To next k′) =
 PassedAs s i k elses (P.Wrong p) = formLeft s i k ≡ F.Wrong p
 
 -- the place behind the bytes from i on that are items by themselves
-abbrev pub isPlain : ℕ → Bool
-isPlain c = not (eqb c 0) && not (eqb c (code "%"))
+abbrev pub isPlainByte : ℕ → Bool
+isPlainByte c = not (eqb c 0) && not (eqb c (code "%"))
 
 abbrev pub plainEnd : List ℕ → ℕ → ℕ
-plainEnd s i = scan (λ k. isPlain (byteAt s k)) i (length s - i)
+plainEnd s i = scan (λ k. isPlainByte (byteAt s k)) i (length s - i)
 
 -- `%;` stands at i
 abbrev pub endsAt : List ℕ → ℕ → Bool

@@ -11,7 +11,7 @@ use Rattle.base.proofs.IfLaws.{below-or}
 use Rattle.base.specs.Overwrite.{putAt}
 use Rattle.base.proofs.OverwriteLaws.{put-nil, put-store, length-put}
 use Rattle.text.specs.declared.StringItem.the-variants.{End, Byte, Removed, Malformed}
-use Rattle.text.specs.Strings.{stringItemAt, storedByte, Reading, Read, malformed, readFrom, readAt, bytesOf}
+use Rattle.text.specs.Strings.{stringItemAt, storedByte, Reading, Read, malformed, readFrom, readAt, readBytes}
 use Rattle.text_laws.specs.Reads.{item-past, read-end, read-malformed, read-byte, read-removed, read-grows, read-all}
 use Rattle.contents.specs.Fits.{Fits}
 use Rattle.contents.specs.Usual.{isSpecial, isEscape}
@@ -34,8 +34,8 @@ module _ {t : List ℕ} {from i : ℕ} {b₀ b : List ℕ} {at p size : ℕ} (f 
   right-yet : readFrom t so-far ≡ malformed → ⊥
   right-yet z = w .whole (sym (f .same) ∙ z)
 
-  same-count : length (bytesOf (readFrom t so-far)) ≡ size
-  same-count = ap (λ (r : Read). length (bytesOf r)) (f .same) ∙ sym (w .counted)
+  same-count : length (readBytes (readFrom t so-far)) ≡ size
+  same-count = ap (λ (r : Read). length (readBytes r)) (f .same) ∙ sym (w .counted)
 
   fits : length (f .done) ≤ size
   fits = let g = read-grows t so-far right-yet in let e = same-count in omega arith
@@ -53,13 +53,13 @@ module _ {t : List ℕ} {from i : ℕ} {b₀ b : List ℕ} {at p size : ℕ} (f 
   filled-within = below-or i (length t) (λ l. l) (λ l. absurd (filled-malformed (item-past t i l)))
 
   -- as many bytes as the string stands for are all of them
-  pub filled-all : at + size ≤ p → b ≡ putAt b₀ at (bytesOf (readAt t from))
+  pub filled-all : at + size ≤ p → b ≡ putAt b₀ at (readBytes (readAt t from))
   filled-all q =
       let h = f .place in
       let l = fits in
       let e = same-count in
-      let n : length (f .done) ≡ length (bytesOf (readFrom t so-far)) = omega arith in
-      f .held ∙ ap (putAt b₀ at) (read-all t so-far right-yet n ∙ ap bytesOf (f .same))
+      let n : length (f .done) ≡ length (readBytes (readFrom t so-far)) = omega arith in
+      f .held ∙ ap (putAt b₀ at) (read-all t so-far right-yet n ∙ ap readBytes (f .same))
 
   pub filled-removed : (k : ℕ) → stringItemAt t i ≡ Removed k → Filled t from k b₀ b at p
   filled-removed k e = record {
@@ -75,9 +75,9 @@ module _ {t : List ℕ} {from i : ℕ} {b₀ b : List ℕ} {at p size : ℕ} (f 
     filled-room = let n = filled-length in let r = w .room in omega arith
 
     pub filled-before : stringItemAt t i ≡ End → ⊥
-    unfolding bytesOf
+    unfolding readBytes
     filled-before e =
-        let n = ap (λ (r : Read). length (bytesOf r)) (sym (read-end t so-far e) ∙ f .same) in
+        let n = ap (λ (r : Read). length (readBytes r)) (sym (read-end t so-far e) ∙ f .same) in
         let c = w .counted in
         let h = f .place in
         omega arith

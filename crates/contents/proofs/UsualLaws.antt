@@ -9,19 +9,11 @@ use lib.Dec.{eqb, leb}
 use lib.ListN.{getD}
 use borrow.Author.Tests.{eqb-true, leb-true, ne-eqb}
 use Rattle.base.specs.If.{if_then_else_}
-use Rattle.base.proofs.IfLaws.{true-false, and-left, and-right}
+use Rattle.base.proofs.IfLaws.{true-false, and-left, and-right, neither, not-true}
 use Rattle.text.specs.declared.StringItem.the-variants.{End, Byte, Malformed}
 use Rattle.text.specs.Bytes.{between, digitOf}
 use Rattle.text.specs.Strings.{letterOf, escapeAt, stringItemAt, storedByte}
-use Rattle.contents.specs.Usual.{isPlain, isSpecial, isEscape}
-
-neither : (a b : Bool) → (a || b) ≡ false → (a ≡ false) × (b ≡ false)
-neither true b e = true-false e
-neither false b e = (refl, e)
-
-not-true : (b : Bool) → not b ≡ true → b ≡ false
-not-true true e = sym e
-not-true false e = refl
+use Rattle.contents.specs.Usual.{isItself, isSpecial, isEscape}
 
 -- ---- items
 
@@ -29,8 +21,8 @@ pub item-comma : (t : List ℕ) (i : ℕ) → getD t i 0 ≡ 44 → stringItemAt
 unfolding stringItemAt
 item-comma t i e = rw e
 
-pub item-plain : (t : List ℕ) (i : ℕ) → isPlain (getD t i 0) ≡ true → stringItemAt t i ≡ Byte (getD t i 0) (i + 1)
-unfolding stringItemAt isPlain
+pub item-plain : (t : List ℕ) (i : ℕ) → isItself (getD t i 0) ≡ true → stringItemAt t i ≡ Byte (getD t i 0) (i + 1)
+unfolding stringItemAt isItself
 item-plain t i h =
     let b = getD t i 0 in
     let range = and-left (between 32 126 b) (not (eqb b 44 || (eqb b 92 || eqb b 94))) h in

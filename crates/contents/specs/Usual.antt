@@ -8,8 +8,8 @@ use lib.ListN.{getD}
 use Rattle.text.specs.Bytes.{between}
 
 -- a byte of a string that stands for itself: 44 is the comma, 92 the backslash, 94 the caret
-unfoldable pub isPlain : ℕ → Bool
-isPlain b = between 32 126 b && not (eqb b 44 || (eqb b 92 || eqb b 94))
+unfoldable pub isItself : ℕ → Bool
+isItself b = between 32 126 b && not (eqb b 44 || (eqb b 92 || eqb b 94))
 
 -- a byte that does not, in a string that is right and before its comma: 10 is the line end
 unfoldable pub isSpecial : ℕ → Bool

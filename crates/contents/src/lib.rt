@@ -4,9 +4,9 @@ ghost use mathlib.Core.Path.{_≡_};
 ghost use Prim.Native.Nat.{_+_, _<_, _^_};
 ghost use lib.ListN.{length};
 ghost use Rattle.base.specs.Overwrite.{putAt};
-ghost use Rattle.text.specs.Strings.{storedByte, readAt, bytesOf, contentOf};
+ghost use Rattle.text.specs.Strings.{storedByte, readAt, readBytes, contentOf};
 ghost use Rattle.contents.specs.Fits.{Fits};
-ghost use Rattle.contents.specs.Usual.{isPlain, isEscape, isSpecial};
+ghost use Rattle.contents.specs.Usual.{isItself, isEscape, isSpecial};
 use escapes::item_at;
 use text::Content;
 use text::StringItem;
@@ -14,7 +14,7 @@ use text_bytes::byte_at;
 
 // A byte of a string that stands for itself.
 fn is_plain(b: u8) -> bool
-    ensures { λ r. ⌜ r ≡ isPlain b ⌝ }
+    ensures { λ r. ⌜ r ≡ isItself b ⌝ }
 {
     match b {
         b',' | b'\\' | b'^' => false,
@@ -90,7 +90,7 @@ fn is_special(b: u8) -> bool
 // The bytes that the string at from stands for, of which there are size, put into a buffer from at on.
 pub fn put_read(b: &mut [u8], at: usize, text: &[u8], from: usize, size: usize)
     requires { ⌜ Fits (now b) at (now text) from size ⌝ }
-    ensures { λ _. ⌜ now (b .exit) ≡ putAt (now (b .entry)) at (bytesOf (readAt (now (text .entry)) from)) ⌝ }
+    ensures { λ _. ⌜ now (b .exit) ≡ putAt (now (b .entry)) at (readBytes (readAt (now (text .entry)) from)) ⌝ }
 {
     let mut i = from;
     let mut p = at;

@@ -1,11 +1,12 @@
--- Demand 2 over writing, compiling and merging: a theorem for each of its sentences, with the sentence above it.
+-- Demand 2 over writing, compiling and merging: a theorem for each of its sentences, with the sentence above it. What
+-- it asks of expanded strings, their bytes and their steps, is the contract of `expand::expand`.
 -- `calling` of Calls.antt is what the calls' contracts say the calls give; `opening` and `asking..` what those of
 -- opening and reading give.
 -- Assumes nothing.
 use mathlib.Core.Path.{_≡_, refl, sym, ap, _∙_, subst}
 use mathlib.Core.Bool.{true}
 use mathlib.Core.List.{List}
-use Prim.Native.Nat.{ℕ, _≤_}
+use Prim.Native.Nat.{ℕ, _-_, _≤_}
 use native.Mathlib.Omega.{arith}
 use lib.ListN.{length, take, drop}
 use lib.Seq.{take-at}
@@ -13,14 +14,16 @@ use Rattle.base.specs.Answer.{Answer, refused, gives, mapAnswer, bufferAfter, L
 use Rattle.base.proofs.OverwriteLaws.{put-front}
 use Rattle.edition.specs.declared.Edition.{Edition}
 use Rattle.edition.specs.Edition.{okEdition}
-use Rattle.entry.specs.Layout.{tablesOf}
+use Rattle.entry.specs.declared.Beyond.{Beyond}
+use Rattle.entry.specs.Layout.{tablesOf, beyondOf}
 use Rattle.entry.specs.Reading.{Entry}
 use Rattle.entry.specs.Asking.{Opening, opening}
 use Rattle.entry.specs.Writing.{sizesFor, encode, entryOf}
 use Rattle.entry.specs.Merging.{merged}
 use Rattle.entry_laws.specs.Sound.{WrittenIn}
 use Rattle.entry_laws.specs.Asked.{opening-is}
-use Rattle.entry_laws.specs.Demands.{written-if, written-only-if, written-holds, ReadsAsWritten, reads-as-written}
+use Rattle.entry_laws.specs.Demands.{countsOf, written-if, written-only-if, written-holds, ReadsAsWritten}
+use Rattle.entry_laws.specs.Demands.{reads-as-written}
 use Rattle.entry_laws.specs.MergeDemands.{merged-if, merged-only-if, merged-holds}
 use Rattle.text_laws.specs.Compiled.{compiled-if, compiled-only-if, compiled-holds}
 use Rattle.demands.specs.Calls.{Call, write, compile, merge, calling, holding, MeetsLimits, WrittenBy}
@@ -92,6 +95,24 @@ unfolding tablesOf sizesFor
 exact-slots e x f w r o =
     let h : WrittenIn e x f = file-holds e x f w in
     rw (opening-is e x f h r o) (ap gives (h .edition))
+
+-- how many slots of a file written in the edition e lie beyond the edition r; a difference below 0 is 0
+abbrev pub beyondPast : Edition → Edition → Beyond
+beyondPast e r =
+    record {
+      booleans = e .booleans - r .booleans;
+      numbers = e .numbers - r .numbers;
+      strings = e .strings - r
+          .strings;
+    }
+
+-- "Opening also reports, per list, how many slots lie beyond the reader's edition"
+pub exact-beyond : (e : Edition) (x : Entry) (f : List ℕ) → WrittenBy e x f → (r : Edition) → okEdition r ≡ true
+    → countsOf (opening r f) ≡ gives (beyondPast e r)
+unfolding beyondOf sizesFor
+exact-beyond e x f w r o =
+    let h : WrittenIn e x f = file-holds e x f w in
+    rw (opening-is e x f h r o) (ap (λ (d : Edition). gives (beyondPast d r)) (h .edition))
 
 -- ---- from a call to its file
 

@@ -9,7 +9,7 @@ use Rattle.entry.specs.declared.Tables.{Tables}
 use Rattle.entry.specs.declared.Beyond.{Beyond}
 use Rattle.entry.specs.Limits.{headerSize, shortWidth, numberWidth, offsetWidth}
 
--- "Header of six: 282, names size, booleans, numbers, strings, table size": the i-th short, low byte first
+-- "Header of six: 282 .., names size, booleans, numbers, strings, table size": the i-th short, low byte first
 abbrev pub shortIn : List ℕ → ℕ → ℕ
 shortIn f i = word shortWidth f (shortWidth * i)
 

@@ -48,7 +48,7 @@ okBooleans f s = every (λ i. okBoolean (getD f (booleansAt s + i) 0)) (s .boole
 unfoldable pub okPad : List ℕ → Sizes → Bool
 okPad f s = eqb (padOf s) 0 || eqb (getD f (booleansAt s + s .booleans) 0) 0
 
--- "0 to 32,767 present; 65,535 absent; 65,534 cancelled; others refused"
+-- "0 to 32,767 present; 65,535 absent; 65,534 cancelled ..; others refused"
 unfoldable pub okNumbers : List ℕ → Sizes → Bool
 okNumbers f s =
     every (λ i. okSlot numberWidth (λ c. ltb c (half numberWidth))

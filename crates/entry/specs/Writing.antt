@@ -128,7 +128,7 @@ unfoldable pub namesFit : List ℕ → Bool
 namesFit n = leb 1 (length n) && (leb (length n) givenNamesMost && eqb (nulFrom n 0 (length n)) (length n))
 
 -- a string is in what was lent: its start plus its length doesn't pass the lent bytes; only a present state has a
--- string
+-- string. Left free by document 01: an empty string. It too must start no later than the lent bytes end
 unfoldable pub isLent : Handed → ℕ → Bool
 isLent h i =
     not (eqb (getD (h .stringKinds) i 0) 1) || leb (getD (h .stringStarts) i 0 + getD (h .stringLengths) i 0)

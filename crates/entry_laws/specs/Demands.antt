@@ -18,7 +18,7 @@ use Rattle.edition.specs.declared.Place.{Place}
 use Rattle.edition.specs.Edition.{okEdition, knows, place}
 use Rattle.entry.specs.declared.Beyond.{Beyond}
 use Rattle.entry.specs.declared.Tables.{Tables}
-use Rattle.entry.specs.Limits.{fileMost, shortMost, contentMost, givenNamesMost}
+use Rattle.entry.specs.Limits.{fileMost, numberMost, contentMost, givenNamesMost}
 use Rattle.entry.specs.State.{absent, mapState}
 use Rattle.base.specs.Answer.{Answer, refused, gives, mapAnswer, isGiven}
 use Rattle.entry.specs.Layout.{tableAt, tablesOf, beyondOf}
@@ -52,7 +52,7 @@ pub record Meets (e : Edition) (h : Handed) : Type 0 where
   pub booleanKinds : (i : ℕ) → i < e .booleans → getD (h .booleanKinds) i 0 ≤ 2
   pub numberKinds : (i : ℕ) → i < e .numbers → getD (h .numberKinds) i 0 ≤ 2
   pub stringKinds : (i : ℕ) → i < e .strings → getD (h .stringKinds) i 0 ≤ 2
-  pub numbersFit : (i : ℕ) → i < e .numbers → getD (h .numberKinds) i 0 ≡ 1 → getD (h .numberValues) i 0 ≤ shortMost
+  pub numbersFit : (i : ℕ) → i < e .numbers → getD (h .numberKinds) i 0 ≡ 1 → getD (h .numberValues) i 0 ≤ numberMost
   pub contentsFit : (i : ℕ) → i < e .strings → getD (h .stringKinds) i 0 ≡ 1
       → (getD (h .stringLengths) i 0 ≤ contentMost)
       × NoNul (take (getD (h .stringLengths) i 0) (drop (getD (h .stringStarts) i 0) (h .lent)))
@@ -151,9 +151,8 @@ written-holds e h room f w =
 
 -- ---- demand 3
 
--- "Whatever file one edition writes, every edition opens it and reads the same names, and each capability that both
--- know exactly as written; each that only the reader knows is absent": heldBoolean and the like are absent at a place
--- that the writing edition doesn't know
+-- an edition opens the file and reads the entry's names and, at each place that it knows, the entry's state:
+-- heldBoolean and the like are absent at a place that the writing edition doesn't know
 pub record ReadsAsWritten (r : Edition) (x : Entry) (f : List ℕ) : Type 0 where
   pub opens : isGiven (opening r f) ≡ true
   pub names : mapAnswer (bytesOf f) (askingNames r f) ≡ gives (x .names)

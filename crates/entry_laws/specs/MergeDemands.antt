@@ -81,9 +81,7 @@ merged-holds e a b room f w =
       file = p .1 .1;
     }
 
--- "Whatever two files are merged, if the merged file is written, a reader that knows no more in any list than the
--- merging edition sees in it exactly the names, states and contents that merging the originals in its own edition
--- gives"
+-- what a reader that knows no more than the merging edition sees in a merged file is what its own merge gives
 pub merged-seen : (e r : Edition) (a b : List ℕ) (room : ℕ) (f : List ℕ) → NoMore r e → merging e a b room ≡ gives f
     → ReadsAsWritten r (merged r a b) f
 unfolding merged
@@ -108,7 +106,7 @@ merged-seen e r a b room f k w =
           (k .strings) (ltb-true _ _ t));
     }
 
--- "its own merge is then refused, if at all, only for room (8)"
+-- and its own merge is refused, if at all, only for room
 pub own-merge : (e r : Edition) (a b : List ℕ) (room own : ℕ) (f : List ℕ) → NoMore r e → merging e a b room ≡ gives f
     → (numberOf (merging r a b own) ≡ 0) ⊎ (numberOf (merging r a b own) ≡ 8)
 own-merge e r a b room own f k w =

@@ -8,7 +8,7 @@ use lib.Dec.{eqb, leb}
 use lib.ListN.{length}
 use borrow.Author.Tests.{eq-eqb, eqb-true, eqb-false}
 use Rattle.base.specs.If.{if_then_else_}
-use Rattle.base.proofs.IfLaws.{true-false, and-left, and-right}
+use Rattle.base.proofs.IfLaws.{true-false, and-left, and-right, or-left, or-right, if-true, if-false, eqb-refl}
 use Rattle.word.specs.Word.{word}
 use Rattle.edition.specs.declared.Edition.{Edition}
 use Rattle.edition.specs.declared.Place.{Place}
@@ -30,9 +30,6 @@ pub compared : (a b : EntryNumbers) (x y z : Bool) → x ≡ sameEdition (a .edi
     → (x && (y && (z && eqb (a .refusal) (b .refusal)))) ≡ same a b
 unfolding same
 compared a b x y z p q r = λ i. p i && (q i && (r i && eqb (a .refusal) (b .refusal)))
-
-eqb-refl : (k : ℕ) → eqb k k ≡ true
-eqb-refl k = eq-eqb k k refl
 
 pub same-refl : (n : EntryNumbers) → same n n ≡ true
 unfolding same sameEdition sameTables sameBeyond
@@ -83,14 +80,6 @@ same-is a b h =
     λ i. record { edition = p i; tables = q i; beyond = r i; refusal = x i }
 
 -- ---- asking an entry
-
-if-true : {A : Type 0} (t : Bool) (x y : A) → t ≡ true → x ≡ (if t then x else y)
-if-true true x y h = refl
-if-true false x y h = true-false (sym h)
-
-if-false : {A : Type 0} (t : Bool) (x y : A) → t ≡ false → y ≡ (if t then x else y)
-if-false true x y h = true-false h
-if-false false x y h = refl
 
 -- what is given was asked of an entry that opening gives
 pub asked-given : {A : Type 0} (f : List ℕ) (n : EntryNumbers) (x : Answer A) (y : A) → gives y ≡ asked f n x → gives y ≡ x
@@ -219,14 +208,6 @@ pub opened-beyond : (e : Edition) (f : List ℕ) → entryBeyond f (opened e f) 
 opened-beyond e f = opened-asked e f (λ E. true) (λ E. beyondOf E (sizesOf f))
 
 -- ---- which numbers opening gives
-
-or-left : (a b : Bool) → a ≡ true → (a || b) ≡ true
-or-left true b h = refl
-or-left false b h = true-false (sym h)
-
-or-right : (a b : Bool) → b ≡ true → (a || b) ≡ true
-or-right true b h = refl
-or-right false b h = h
 
 -- the numbers compared with those that opening gives, and with those of an edition that was too large
 module _ (f : List ℕ) (n m : EntryNumbers) (t u : Bool) (q : m ≡ opened (n .edition) f) (r : t ≡ same n m) (s : u ≡ same n (numbersOf (n .edition) (refused 3 []))) where

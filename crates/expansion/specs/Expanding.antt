@@ -25,7 +25,7 @@ pub record Expanding : Type 0 where
   pub lasting : List ℤ
 
 -- "then the first failing step (15 and 16 with its item's place), then 8, only if all else succeeded": room bytes are
--- free
+-- free. Left free by document 01: what 8 gives. It is the output's own length, without the bytes before its place
 unfoldable pub ended : Outcome → ℕ → Answer Expanding
 ended (failed n i) room = refused n (i ∷ [])
 ended (finished m out n) room =

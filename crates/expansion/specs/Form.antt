@@ -39,8 +39,8 @@ classOf I.Wrong = Wrong
 unfoldable pub classAt : List ℕ → ℕ → Classed
 classAt s i = record { class = classOf (itemAt s i .item); next = itemAt s i .next }
 
--- which part of an open conditional is being read: the condition, from `%?` or from an `%e` on, which may turn out to
--- be the final else; or the body, from `%t` on
+-- which part of an open conditional is being read: the condition, from `%?` on; the body, from `%t` on; or what follows
+-- an `%e`, which is the final else or the condition of another body
 pub data Level : Type 0 where
   condition : Level
   body : Level

@@ -16,12 +16,13 @@ use Rattle.names.specs.declared.Found.{Found}
 use Rattle.names.specs.declared.Found.the-variants as N
 use Rattle.names.specs.Names.{ascii}
 use Rattle.names.specs.Lookup.{sameBytes, lookingUp}
-use Rattle.names.proofs.LookupLaws.{never, same-eq, found-in}
+use Rattle.base.proofs.IfLaws.{is-false}
+use Rattle.names.proofs.LookupLaws.{same-eq, found-in}
 use Rattle.text.specs.declared.FieldForm.{FieldForm}
 use Rattle.text.specs.declared.FieldForm.the-variants as F
 use Rattle.text.specs.declared.Said.the-variants as S
-use Rattle.text.specs.declared.Judged.{Judged}
-use Rattle.text.specs.declared.Judged.the-variants as J
+use Rattle.text.specs.declared.FieldJudged.{FieldJudged}
+use Rattle.text.specs.declared.FieldJudged.the-variants as J
 use Rattle.text.specs.declared.TextRefusal.the-variants as R
 use Rattle.text.specs.declared.Field.the-variants as W
 use Rattle.text.specs.Fields.{fieldAt}
@@ -33,7 +34,7 @@ use Rattle.judge.specs.Kinds.{FormIn, Judges, JudgesNamed}
 -- ---- the name `use`
 
 pub not-use : (n : List ℕ) → (n ≡ ascii "use" → ⊥) → false ≡ sameBytes n (ascii "use")
-not-use n h = sym (never (sameBytes n (ascii "use")) (λ s. h (same-eq n (ascii "use") s)))
+not-use n h = sym (is-false (sameBytes n (ascii "use")) (λ s. h (same-eq n (ascii "use") s)))
 
 -- 117, 115, 101 are `u`, `s`, `e`
 pub use-third : (n : List ℕ) → length n ≡ 3 → getD n 0 0 ≡ 117 → getD n 1 0 ≡ 115 → eqb (getD n 2 0) 101 ≡ sameBytes n (ascii "use")
@@ -66,7 +67,7 @@ module _ (e : Edition) (name : List ℕ) (form : FieldForm) (next : ℕ) where
   unfolding namedSaying
   named-use h t p f = (rw h, tt)
 
-  pub named-found : isUse name form ≡ false → (found : Found) → found ≡ lookingUp e name → (r : Judged) → Judges found form next r → JudgesNamed e name form next r
+  pub named-found : isUse name form ≡ false → (found : Found) → found ≡ lookingUp e name → (r : FieldJudged) → Judges found form next r → JudgesNamed e name form next r
   unfolding namedSaying
   named-found h found g r j t p f =
       let u = j e t p (rw g (found-in e name)) f in
@@ -98,7 +99,7 @@ module _ (e : Edition) (t : List ℕ) (p : ℕ) where
     unfolding judging
     judged-dropped h = rw (is, h)
 
-    pub judged-named : d ≡ false → (r : Judged) → JudgesNamed e (take (k - i) (drop i t)) f next r
+    pub judged-named : d ≡ false → (r : FieldJudged) → JudgesNamed e (take (k - i) (drop i t)) f next r
         → (saysJudged t p r ≡ judging e t p) × JudgedIn e t r
     unfolding judging
     judged-named h r j =

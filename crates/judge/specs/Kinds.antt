@@ -9,7 +9,7 @@ use Rattle.names.specs.declared.Found.{Found}
 use Rattle.names.proofs.LookupLaws.{FoundIn}
 use Rattle.text.specs.declared.FieldForm.{FieldForm}
 use Rattle.text.specs.declared.FieldForm.the-variants as F
-use Rattle.text.specs.declared.Judged.{Judged}
+use Rattle.text.specs.declared.FieldJudged.{FieldJudged}
 use Rattle.text.specs.Describing.{Saying, Judging, sayingOf, namedSaying}
 use Rattle.judge.specs.Judged.{StandsAt, saysJudged, JudgedIn}
 
@@ -27,12 +27,12 @@ FormIn t (F.String i n) = StandsAt t i n
 
 -- r judges a form under the capability found: for every edition that knows it, and every text that has the form, with
 -- the field's first byte at p
-abbrev pub Judges : Found → FieldForm → ℕ → Judged → Type 0
+abbrev pub Judges : Found → FieldForm → ℕ → FieldJudged → Type 0
 Judges found form next r =
     (e : Edition) (t : List ℕ) (p : ℕ) → FoundIn e found → FormIn t form
     → (saysJudged t p r ≡ to next (sayingOf t p form found)) × JudgedIn e t r
 
 -- the same under a name
-abbrev pub JudgesNamed : Edition → List ℕ → FieldForm → ℕ → Judged → Type 0
+abbrev pub JudgesNamed : Edition → List ℕ → FieldForm → ℕ → FieldJudged → Type 0
 JudgesNamed e name form next r =
     (t : List ℕ) (p : ℕ) → FormIn t form → (saysJudged t p r ≡ to next (namedSaying e t p name form)) × JudgedIn e t r

@@ -17,7 +17,7 @@ use entry::PRESENT;
 use names::Found;
 use text::Field;
 use text::FieldForm;
-use text::Judged;
+use text::FieldJudged;
 use text::Said;
 use text::TextRefusal;
 
@@ -49,73 +49,73 @@ fn is_use_field(name: &[u8], form: FieldForm) -> bool
 }
 
 // What a form says of a boolean; next is the place past the field.
-fn boolean_by(place: Place, form: FieldForm, next: usize) -> Judged
+fn boolean_by(place: Place, form: FieldForm, next: usize) -> FieldJudged
     ensures { λ r. ⌜ (Judges (Capability.Boolean place) form next r) ⌝ }
 {
     match form {
-        FieldForm::Boolean => Judged::Said(Said::Boolean(place, PRESENT), next),
-        FieldForm::Cancelled => Judged::Said(Said::Boolean(place, CANCELLED), next),
-        FieldForm::Number(_) => Judged::Refused(TextRefusal::Unknown),
-        FieldForm::LargeNumber => Judged::Refused(TextRefusal::Unknown), // the kind comes before the limit
-        FieldForm::String(_, _) => Judged::Refused(TextRefusal::Unknown),
+        FieldForm::Boolean => FieldJudged::Said(Said::Boolean(place, PRESENT), next),
+        FieldForm::Cancelled => FieldJudged::Said(Said::Boolean(place, CANCELLED), next),
+        FieldForm::Number(_) => FieldJudged::Refused(TextRefusal::Unknown),
+        FieldForm::LargeNumber => FieldJudged::Refused(TextRefusal::Unknown), // the kind comes before the limit
+        FieldForm::String(_, _) => FieldJudged::Refused(TextRefusal::Unknown),
     }
 }
 
 // What a form says of a number.
-fn number_by(place: Place, form: FieldForm, next: usize) -> Judged
+fn number_by(place: Place, form: FieldForm, next: usize) -> FieldJudged
     ensures { λ r. ⌜ (Judges (Capability.Number place) form next r) ⌝ }
 {
     match form {
-        FieldForm::Boolean => Judged::Refused(TextRefusal::Unknown),
-        FieldForm::Cancelled => Judged::Said(Said::Number(place, CANCELLED, 0), next),
-        FieldForm::Number(v) => Judged::Said(Said::Number(place, PRESENT, v), next),
-        FieldForm::LargeNumber => Judged::Refused(TextRefusal::Limit),
-        FieldForm::String(_, _) => Judged::Refused(TextRefusal::Unknown),
+        FieldForm::Boolean => FieldJudged::Refused(TextRefusal::Unknown),
+        FieldForm::Cancelled => FieldJudged::Said(Said::Number(place, CANCELLED, 0), next),
+        FieldForm::Number(v) => FieldJudged::Said(Said::Number(place, PRESENT, v), next),
+        FieldForm::LargeNumber => FieldJudged::Refused(TextRefusal::Limit),
+        FieldForm::String(_, _) => FieldJudged::Refused(TextRefusal::Unknown),
     }
 }
 
 // What a form says of a string.
-fn string_by(place: Place, form: FieldForm, next: usize) -> Judged
+fn string_by(place: Place, form: FieldForm, next: usize) -> FieldJudged
     ensures { λ r. ⌜ (Judges (Capability.String place) form next r) ⌝ }
 {
     match form {
-        FieldForm::Boolean => Judged::Refused(TextRefusal::Unknown),
-        FieldForm::Cancelled => Judged::Said(Said::String(place, CANCELLED, 0, 0), next),
-        FieldForm::Number(_) => Judged::Refused(TextRefusal::Unknown),
-        FieldForm::LargeNumber => Judged::Refused(TextRefusal::Unknown),
+        FieldForm::Boolean => FieldJudged::Refused(TextRefusal::Unknown),
+        FieldForm::Cancelled => FieldJudged::Said(Said::String(place, CANCELLED, 0, 0), next),
+        FieldForm::Number(_) => FieldJudged::Refused(TextRefusal::Unknown),
+        FieldForm::LargeNumber => FieldJudged::Refused(TextRefusal::Unknown),
         FieldForm::String(i, n) => {
             if CONTENT_MOST < n {
-                return Judged::Refused(TextRefusal::Limit);
+                return FieldJudged::Refused(TextRefusal::Limit);
             }
-            Judged::Said(Said::String(place, PRESENT, i, n), next)
+            FieldJudged::Said(Said::String(place, PRESENT, i, n), next)
         }
     }
 }
 
 // What a form says of the capability that its name was looked up as.
-fn judge_found(found: Found, form: FieldForm, next: usize) -> Judged
+fn judge_found(found: Found, form: FieldForm, next: usize) -> FieldJudged
     ensures { λ r. ⌜ (Judges found form next r) ⌝ }
 {
     match found {
         Found::Boolean(place) => boolean_by(place, form, next),
         Found::Number(place) => number_by(place, form, next),
         Found::String(place) => string_by(place, form, next),
-        Found::Unknown => Judged::Refused(TextRefusal::Unknown),
+        Found::Unknown => FieldJudged::Refused(TextRefusal::Unknown),
     }
 }
 
 // A field that isn't dropped.
-fn judge_named(name: &[u8], form: FieldForm, next: usize, edition: Edition) -> Judged
+fn judge_named(name: &[u8], form: FieldForm, next: usize, edition: Edition) -> FieldJudged
     ensures { λ r. ⌜ (JudgesNamed edition (now (name .entry)) form next r) ⌝ }
 {
     if is_use_field(name, form) {
-        return Judged::Refused(TextRefusal::Use);
+        return FieldJudged::Refused(TextRefusal::Use);
     }
     judge_found(lookup::find(name, edition), form, next)
 }
 
 // The field whose first byte is at a place.
-pub fn judge(text: &[u8], at: usize, edition: Edition) -> Judged
+pub fn judge(text: &[u8], at: usize, edition: Edition) -> FieldJudged
     requires { ⌜ at < length (now text) ⌝ }
     ensures { λ r. ⌜ (saysJudged (now (text .entry)) at r ≡ judging edition (now (text .entry)) at)
         × JudgedIn edition (now (text .entry)) r ⌝ }
@@ -129,10 +129,10 @@ pub fn judge(text: &[u8], at: usize, edition: Edition) -> Judged
             next,
         } => {
             if dropped {
-                return Judged::Said(Said::Nothing, next);
+                return FieldJudged::Said(Said::Nothing, next);
             }
             judge_named(&text[name..end], form, next, edition)
         }
-        Field::Malformed => Judged::Refused(TextRefusal::Malformed),
+        Field::Malformed => FieldJudged::Refused(TextRefusal::Malformed),
     }
 }

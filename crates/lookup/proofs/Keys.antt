@@ -10,6 +10,7 @@ use lib.ListN.{length, getD}
 use Rattle.names.specs.Naming.{packedNames}
 use Rattle.names.specs.Searching.{searching}
 use Rattle.names.proofs.Places.{numbers-count, only-place, no-place}
+use Rattle.names.specs.Names.{allNamed}
 
 -- x is none of the keys, as a match leaves it in its last arm
 abbrev NoKey : Type 0 → List ℕ → ℕ → Type 0
@@ -27,10 +28,10 @@ no-key A (k ∷ ks) x h =
     at f g (suc j) l q = g j (le-of-suc-le-suc l) q
 
 -- an arm's key is the number at place j
-pub key-place : {w : ℕ} (j : ℕ) → j < 167 → w ≡ getD packedNames j 0 → j ≡ searching 0 167 w
-key-place {w} j l q = let e : 0 + j ≡ j = omega arith in only-place 0 167 w j (lit≤ tt) l (rw e q)
+pub key-place : {w : ℕ} (j : ℕ) → j < allNamed → w ≡ getD packedNames j 0 → j ≡ searching 0 allNamed w
+key-place {w} j l q = let e : 0 + j ≡ j = omega arith in only-place 0 allNamed w j (lit≤ tt) l (rw e q)
 
 -- the last arm
-pub rest-place : (w : ℕ) → NoKey Unit packedNames w → 167 ≡ searching 0 167 w
+pub rest-place : (w : ℕ) → NoKey Unit packedNames w → allNamed ≡ searching 0 allNamed w
 rest-place w h =
-    no-place 0 167 w (λ j l q. let e : 0 + j ≡ j = omega arith in no-key Unit packedNames w h .1 j (rw numbers-count l) (rw e at q))
+    no-place 0 allNamed w (λ j l q. let e : 0 + j ≡ j = omega arith in no-key Unit packedNames w h .1 j (rw numbers-count l) (rw e at q))

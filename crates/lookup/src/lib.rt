@@ -6,6 +6,7 @@ ghost use lib.ListN.{length, getD};
 ghost use Rattle.word.specs.Word.{word};
 ghost use Rattle.names.specs.Lookup.{lookingUp};
 ghost use Rattle.names.specs.Searching.{sought, searching};
+ghost use Rattle.names.specs.Names.{allNamed};
 use edition::Edition;
 use edition::Place;
 use names::Found;
@@ -26,7 +27,7 @@ fn short_at(name: &[u8], i: usize) -> u64
     byte_at(name, i) + byte_at(name, i + 1) * 256
 }
 
-// The number that stands for the name in the table, or 0 for bytes that no name of the table has. (65536 and
+// The number that is looked for in the table, or 0 for bytes that can't be a name of it. (65536 and
 // 4294967296 are 256 to the power of 2 and 4.)
 fn pack(name: &[u8]) -> u64
     ensures { λ r. ⌜ r ≡ sought (now (name .entry)) ⌝ }
@@ -49,7 +50,7 @@ fn pack(name: &[u8]) -> u64
 
 // The place among all names of the name of that number; 167 where no name has it.
 fn place_of(number: u64) -> usize
-    ensures { λ r. ⌜ r ≡ searching 0 167 number ⌝ }
+    ensures { λ r. ⌜ r ≡ searching 0 allNamed number ⌝ }
 {
     match number {
         30562 => 0, // bw

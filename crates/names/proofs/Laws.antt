@@ -11,7 +11,7 @@ use Rattle.base.proofs.IfLaws.{below-or}
 use Rattle.edition.specs.declared.Place.{Place}
 use Rattle.edition.specs.declared.Kind.the-variants as Kinds
 use Rattle.base.specs.Answer.{Answer, refused, gives}
-use Rattle.names.specs.Names.{booleanNames, numberNames, stringNames, allNames}
+use Rattle.names.specs.Names.{booleanNames, numberNames, stringNames, allNames, booleansNamed, numbersNamed, stringsNamed, stringsFrom}
 use Rattle.names.specs.Naming.{packed, naming}
 use Rattle.names.proofs.LookupLaws.{booleans-length, numbers-length, strings-length, booleans-listed, numbers-listed, strings-listed}
 
@@ -21,14 +21,14 @@ listed : (names all : List (List ℕ)) (first count : ℕ) → length names ≡ 
 listed names all first count e h p =
     rw e (below-or (p .0) count (λ l. rw (lt-ltb (p .0) count l, h (p .0) l)) (λ l. rw (le-ltb (p .0) count l)))
 
-pub named-boolean : (p : Place) → (if ltb (p .0) 21 then gives (packed (getD allNames (0 + p .0) [])) else refused 17 []) ≡ naming Kinds.Boolean p
+pub named-boolean : (p : Place) → (if ltb (p .0) booleansNamed then gives (packed (getD allNames (0 + p .0) [])) else refused 17 []) ≡ naming Kinds.Boolean p
 unfolding naming
-named-boolean p = listed booleanNames allNames 0 21 booleans-length booleans-listed p
+named-boolean p = listed booleanNames allNames 0 booleansNamed booleans-length booleans-listed p
 
-pub named-number : (p : Place) → (if ltb (p .0) 8 then gives (packed (getD allNames (21 + p .0) [])) else refused 17 []) ≡ naming Kinds.Number p
+pub named-number : (p : Place) → (if ltb (p .0) numbersNamed then gives (packed (getD allNames (booleansNamed + p .0) [])) else refused 17 []) ≡ naming Kinds.Number p
 unfolding naming
-named-number p = listed numberNames allNames 21 8 numbers-length numbers-listed p
+named-number p = listed numberNames allNames booleansNamed numbersNamed numbers-length numbers-listed p
 
-pub named-string : (p : Place) → (if ltb (p .0) 138 then gives (packed (getD allNames (29 + p .0) [])) else refused 17 []) ≡ naming Kinds.String p
+pub named-string : (p : Place) → (if ltb (p .0) stringsNamed then gives (packed (getD allNames (stringsFrom + p .0) [])) else refused 17 []) ≡ naming Kinds.String p
 unfolding naming
-named-string p = listed stringNames allNames 29 138 strings-length strings-listed p
+named-string p = listed stringNames allNames stringsFrom stringsNamed strings-length strings-listed p

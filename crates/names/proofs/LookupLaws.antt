@@ -12,14 +12,14 @@ use lib.ListN.{length, getD, take, length-take, List·getD-append, List·getD-eq
 use lib.Seq.{getD-append-add, getD-take, ext-getD}
 use borrow.Author.Tests.{ltb-true, leb-true, eqb-true, eq-eqb, ne-eqb, le-leb, lt-ltb, le-ltb}
 use Rattle.base.specs.If.{if_then_else_}
-use Rattle.base.proofs.IfLaws.{true-false, and-left, and-right, below-or}
+use Rattle.base.proofs.IfLaws.{true-false, and-left, and-right, below-or, is-false}
 use Rattle.base.proofs.ScanLaws.{scan-ext}
 use Rattle.word.specs.Word.{word}
 use Rattle.edition.specs.declared.Edition.{Edition}
 use Rattle.edition.specs.Edition.{place}
 use Rattle.names.specs.declared.Found.{Found}
 use Rattle.names.specs.declared.Found.the-variants as F
-use Rattle.names.specs.Names.{ascii, parted, named, booleanNames, numberNames, stringNames, allNames}
+use Rattle.names.specs.Names.{ascii, parted, named, booleanNames, numberNames, stringNames, allNames, booleansNamed, numbersNamed, stringsNamed, stringsFrom, allNamed}
 use Rattle.names.specs.Naming.{packed, packedNames}
 use Rattle.names.proofs.NamingLaws.{packed-at}
 use Rattle.names.specs.Lookup.{sameBytes, placeIn, isThere, lookingUp}
@@ -104,11 +104,6 @@ same-eq (x ∷ m) [] e = true-false (sym e)
 same-eq (x ∷ m) (y ∷ n) e =
     rw (eqb-true x y (and-left (eqb x y) (sameBytes m n) e), same-eq m n (and-right (eqb x y) (sameBytes m n) e))
 
--- a test is false where it can't be true
-pub never : (t : Bool) → (t ≡ true → ⊥) → t ≡ false
-never true h = absurd (h refl)
-never false h = refl
-
 -- a name m that fits the table, and any bytes n
 same-sought : (m n : List ℕ) → fitsTable m ≡ true → (packed m ≡ 0 → ⊥) → Bytes m → Bytes n → sameBytes m n ≡ eqb (packed m) (sought n)
 unfolding sought
@@ -118,10 +113,10 @@ same-sought m n d z b c = by-fit (fitsTable n) refl
     by-fit true e =
         elim (ℕ-discrete (packed m) (packed n)) [
           | yes q ↦ rw (eq-eqb _ _ q, same-number m n b c d e q) (same-refl n)
-          | no q ↦ (let k = never (sameBytes m n) (λ s. q (ap packed (same-eq m n s))) in rw (ne-eqb _ _ q, k))
+          | no q ↦ (let k = is-false (sameBytes m n) (λ s. q (ap packed (same-eq m n s))) in rw (ne-eqb _ _ q, k))
         ]
     by-fit false e =
-        let k = never (sameBytes m n) (λ s. true-false (sym d ∙ ap fitsTable (same-eq m n s) ∙ e)) in
+        let k = is-false (sameBytes m n) (λ s. true-false (sym d ∙ ap fitsTable (same-eq m n s) ∙ e)) in
         rw (ne-eqb _ _ z, k)
 
 -- ---- the number that a name is looked for by
@@ -129,7 +124,7 @@ same-sought m n d z b c = by-fit (fitsTable n) refl
 module _ (n : List ℕ) where
   not-sought : (fitsTable n ≡ true → ⊥) → 0 ≡ sought n
   unfolding sought
-  not-sought h = rw (never (fitsTable n) h)
+  not-sought h = rw (is-false (fitsTable n) h)
 
   pub sought-short : length n < 2 → 0 ≡ sought n
   unfolding fitsTable
@@ -160,7 +155,7 @@ names-right : all isName allNames ≡ true
 unfolding fitsTable packed word allNames booleanNames numberNames stringNames named parted ascii
 names-right = refl
 
-names-count : length allNames ≡ 167
+names-count : length allNames ≡ allNamed
 unfolding allNames booleanNames numberNames stringNames named parted ascii
 names-count = refl
 
@@ -169,7 +164,7 @@ all-bytes m e j =
     below-or j (length m) (λ l. ltb-true _ _ (all-at (λ b. ltb b 256) m j 0 e l)) (λ l. rw (List·getD-eq-default m 0 l) (lit< tt))
 
 -- a name of the table is the bytes n, or its number isn't the one that n is looked for by
-name-at : (k : ℕ) (n : List ℕ) → k < 167 → Bytes n → sameBytes (getD allNames k []) n ≡ eqb (getD packedNames k 0) (sought n)
+name-at : (k : ℕ) (n : List ℕ) → k < allNamed → Bytes n → sameBytes (getD allNames k []) n ≡ eqb (getD packedNames k 0) (sought n)
 name-at k n l b =
     let m : List ℕ = getD allNames k [] in
     let e : isName m ≡ true = all-at isName allNames k [] names-right (rw names-count l) in
@@ -179,55 +174,55 @@ name-at k n l b =
 
 -- ---- the lists within the table
 
-pub booleans-length : length booleanNames ≡ 21
+pub booleans-length : length booleanNames ≡ booleansNamed
 unfolding booleanNames named parted ascii
 booleans-length = refl
 
-pub numbers-length : length numberNames ≡ 8
+pub numbers-length : length numberNames ≡ numbersNamed
 unfolding numberNames named parted ascii
 numbers-length = refl
 
-pub strings-length : length stringNames ≡ 138
+pub strings-length : length stringNames ≡ stringsNamed
 unfolding stringNames named parted ascii
 strings-length = refl
 
-pub booleans-listed : (i : ℕ) → i < 21 → getD allNames (0 + i) [] ≡ getD booleanNames i []
+pub booleans-listed : (i : ℕ) → i < booleansNamed → getD allNames (0 + i) [] ≡ getD booleanNames i []
 unfolding allNames
 booleans-listed i l =
     let e : 0 + i ≡ i = omega arith in
     rw e (List·getD-append booleanNames (numberNames ++ stringNames) [] i (rw booleans-length l))
 
-pub numbers-listed : (i : ℕ) → i < 8 → getD allNames (21 + i) [] ≡ getD numberNames i []
+pub numbers-listed : (i : ℕ) → i < numbersNamed → getD allNames (booleansNamed + i) [] ≡ getD numberNames i []
 unfolding allNames
 numbers-listed i l =
     ap (λ (n : ℕ). getD (booleanNames ++ (numberNames ++ stringNames)) (n + i) []) (sym booleans-length)
     ∙ getD-append-add booleanNames (numberNames ++ stringNames) i []
     ∙ List·getD-append numberNames stringNames [] i (rw numbers-length l)
 
-pub strings-listed : (i : ℕ) → i < 138 → getD allNames (29 + i) [] ≡ getD stringNames i []
+pub strings-listed : (i : ℕ) → i < stringsNamed → getD allNames (stringsFrom + i) [] ≡ getD stringNames i []
 unfolding allNames
 strings-listed i l =
-    let e : 29 + i ≡ length booleanNames + (length numberNames + i) = rw (booleans-length, numbers-length) (omega arith) in
+    let e : stringsFrom + i ≡ length booleanNames + (length numberNames + i) = rw (booleans-length, numbers-length) (omega arith) in
     rw e (getD-append-add booleanNames (numberNames ++ stringNames) (length numberNames + i) [] ∙ getD-append-add numberNames stringNames i [])
 
 -- ---- a name's place in a list, by the place of its number in the table
 
 -- k is the place of the number of the bytes n among all
 abbrev pub TablePlace : List ℕ → ℕ → Type 0
-TablePlace n k = k ≡ searching 0 167 (sought n)
+TablePlace n k = k ≡ searching 0 allNamed (sought n)
 
 -- the number of the bytes n stands at place k only
 module _ (n : List ℕ) (k : ℕ) (t : TablePlace n k) where
-  table-at : k < 167 → sought n ≡ getD packedNames k 0
+  table-at : k < allNamed → sought n ≡ getD packedNames k 0
   table-at l =
-      let z : 0 + searching 0 167 (sought n) ≡ k = omega arith in
-      sym (placed-number 0 167 (sought n) (omega arith)) ∙ ap (λ (i : ℕ). getD packedNames i 0) z
+      let z : 0 + searching 0 allNamed (sought n) ≡ k = omega arith in
+      sym (placed-number 0 allNamed (sought n) (omega arith)) ∙ ap (λ (i : ℕ). getD packedNames i 0) z
 
-  table-only : (j : ℕ) → j < 167 → getD packedNames j 0 ≡ sought n → j ≡ k
-  table-only j l q = only-place 0 167 (sought n) j (lit≤ tt) l (let z : 0 + j ≡ j = omega arith in rw z (sym q)) ∙ sym t
+  table-only : (j : ℕ) → j < allNamed → getD packedNames j 0 ≡ sought n → j ≡ k
+  table-only j l q = only-place 0 allNamed (sought n) j (lit≤ tt) l (let z : 0 + j ≡ j = omega arith in rw z (sym q)) ∙ sym t
 
 -- names stand in all names from first on, and an edition counts c of them
-module _ (names : List (List ℕ)) (first size c : ℕ) (e : length names ≡ size) (within : first + size ≤ 167)
+module _ (names : List (List ℕ)) (first size c : ℕ) (e : length names ≡ size) (within : first + size ≤ allNamed)
     (listed : (i : ℕ) → i < size → getD allNames (first + i) [] ≡ getD names i []) (n : List ℕ) (b : Bytes n) where
   known : length (take c names) ≡ min c size
   known = rw (length-take c names, e)
@@ -261,38 +256,38 @@ module _ (names : List (List ℕ)) (first size c : ℕ) (e : length names ≡ si
 -- ---- the answers
 
 module _ (e : Edition) (n : List ℕ) (b : Bytes n) (k : ℕ) (t : TablePlace n k) where
-  no-boolean : (k < 21 → e .booleans ≤ k) → isThere (take (e .booleans) booleanNames) n ≡ false
-  no-boolean h = not-in-list booleanNames 0 21 (e .booleans) booleans-length (lit≤ tt) booleans-listed n b k t (λ l m. let g = h (omega arith) in omega arith)
+  no-boolean : (k < booleansNamed → e .booleans ≤ k) → isThere (take (e .booleans) booleanNames) n ≡ false
+  no-boolean h = not-in-list booleanNames 0 booleansNamed (e .booleans) booleans-length (lit≤ tt) booleans-listed n b k t (λ l m. let g = h (omega arith) in omega arith)
 
-  no-number : (21 ≤ k → k < 29 → e .numbers ≤ k - 21) → isThere (take (e .numbers) numberNames) n ≡ false
-  no-number h = not-in-list numberNames 21 8 (e .numbers) numbers-length (lit≤ tt) numbers-listed n b k t (λ l m. h l (omega arith))
+  no-number : (booleansNamed ≤ k → k < stringsFrom → e .numbers ≤ k - booleansNamed) → isThere (take (e .numbers) numberNames) n ≡ false
+  no-number h = not-in-list numberNames booleansNamed numbersNamed (e .numbers) numbers-length (lit≤ tt) numbers-listed n b k t (λ l m. h l (omega arith))
 
-  no-string : (29 ≤ k → k < 167 → e .strings ≤ k - 29) → isThere (take (e .strings) stringNames) n ≡ false
-  no-string h = not-in-list stringNames 29 138 (e .strings) strings-length (lit≤ tt) strings-listed n b k t (λ l m. h l (omega arith))
+  no-string : (stringsFrom ≤ k → k < allNamed → e .strings ≤ k - stringsFrom) → isThere (take (e .strings) stringNames) n ≡ false
+  no-string h = not-in-list stringNames stringsFrom stringsNamed (e .strings) strings-length (lit≤ tt) strings-listed n b k t (λ l m. h l (omega arith))
 
-  pub found-boolean : k < 21 → k < e .booleans → F.Boolean (place k) ≡ lookingUp e n
+  pub found-boolean : k < booleansNamed → k < e .booleans → F.Boolean (place k) ≡ lookingUp e n
   unfolding lookingUp
   found-boolean l m =
       let z : k - 0 ≡ k = omega arith in
-      let p = in-list booleanNames 0 21 (e .booleans) booleans-length (lit≤ tt) booleans-listed n b k t (omega arith) (omega arith) (omega arith) in
+      let p = in-list booleanNames 0 booleansNamed (e .booleans) booleans-length (lit≤ tt) booleans-listed n b k t (omega arith) (omega arith) (omega arith) in
       rw (p .0, p .1, z)
 
-  pub found-number : 21 ≤ k → k < 29 → k - 21 < e .numbers → F.Number (place (k - 21)) ≡ lookingUp e n
+  pub found-number : booleansNamed ≤ k → k < stringsFrom → k - booleansNamed < e .numbers → F.Number (place (k - booleansNamed)) ≡ lookingUp e n
   unfolding lookingUp
   found-number l m o =
-      let p = in-list numberNames 21 8 (e .numbers) numbers-length (lit≤ tt) numbers-listed n b k t l (omega arith) o in
+      let p = in-list numberNames booleansNamed numbersNamed (e .numbers) numbers-length (lit≤ tt) numbers-listed n b k t l (omega arith) o in
       let q = no-boolean (λ h. absurd (let y : ⊥ = omega arith in y)) in
       rw (q, p .0, p .1)
 
-  pub found-string : 29 ≤ k → k < 167 → k - 29 < e .strings → F.String (place (k - 29)) ≡ lookingUp e n
+  pub found-string : stringsFrom ≤ k → k < allNamed → k - stringsFrom < e .strings → F.String (place (k - stringsFrom)) ≡ lookingUp e n
   unfolding lookingUp
   found-string l m o =
-      let p = in-list stringNames 29 138 (e .strings) strings-length (lit≤ tt) strings-listed n b k t l (omega arith) o in
+      let p = in-list stringNames stringsFrom stringsNamed (e .strings) strings-length (lit≤ tt) strings-listed n b k t l (omega arith) o in
       let q = no-boolean (λ h. absurd (let y : ⊥ = omega arith in y)) in
       let r = no-number (λ h i. absurd (let y : ⊥ = omega arith in y)) in
       rw (q, r, p .0, p .1)
 
-  pub found-none : (k < 21 → e .booleans ≤ k) → (21 ≤ k → k < 29 → e .numbers ≤ k - 21) → (29 ≤ k → k < 167 → e .strings ≤ k - 29)
+  pub found-none : (k < booleansNamed → e .booleans ≤ k) → (booleansNamed ≤ k → k < stringsFrom → e .numbers ≤ k - booleansNamed) → (stringsFrom ≤ k → k < allNamed → e .strings ≤ k - stringsFrom)
       → F.Unknown ≡ lookingUp e n
   unfolding lookingUp
   found-none f g h =

@@ -13,7 +13,7 @@ use Rattle.base.proofs.IfLaws.{true-false, and-left, and-right, below-or}
 use Rattle.base.specs.Scan.{scan}
 use Rattle.base.proofs.ScanLaws.{scan-all, scan-before, scan-fails}
 use Rattle.word.specs.Word.{word}
-use Rattle.names.specs.Names.{ascii, parted, named, booleanNames, numberNames, stringNames, allNames}
+use Rattle.names.specs.Names.{ascii, parted, named, booleanNames, numberNames, stringNames, allNames, allNamed}
 use Rattle.names.specs.Naming.{packed, packedNames}
 use Rattle.names.specs.Searching.{searching}
 
@@ -58,7 +58,7 @@ distinct-at (x ∷ xs) (suc i) (suc j) e l m q =
 
 -- ---- the table, by computed tests
 
-pub numbers-count : length packedNames ≡ 167
+pub numbers-count : length packedNames ≡ allNamed
 unfolding packedNames packed word allNames booleanNames numberNames stringNames named parted ascii
 numbers-count = refl
 
@@ -66,7 +66,7 @@ numbers-distinct : distinct packedNames ≡ true
 unfolding packedNames packed word allNames booleanNames numberNames stringNames named parted ascii
 numbers-distinct = refl
 
-one-place : (i j : ℕ) → i < 167 → j < 167 → getD packedNames i 0 ≡ getD packedNames j 0 → i ≡ j
+one-place : (i j : ℕ) → i < allNamed → j < allNamed → getD packedNames i 0 ≡ getD packedNames j 0 → i ≡ j
 one-place i j l m q = distinct-at packedNames i j numbers-distinct (rw numbers-count l) (rw numbers-count m) q
 
 -- ---- searches for w among the count numbers from first on
@@ -82,7 +82,7 @@ module _ (first count w : ℕ) where
   passed j l = differs-ne _ _ (scan-before (λ i. differs (getD packedNames (first + i) 0) w) 0 count j (omega arith) l)
 
   -- a number's place is found
-  pub only-place : (j : ℕ) → first + count ≤ 167 → j < count → w ≡ getD packedNames (first + j) 0 → j ≡ searching first count w
+  pub only-place : (j : ℕ) → first + count ≤ allNamed → j < count → w ≡ getD packedNames (first + j) 0 → j ≡ searching first count w
   only-place j h l q =
       below-or (searching first count w) count
       (λ m.

@@ -31,15 +31,31 @@ parted mark (b ∷ s) = let rest : List (List ℕ) = parted mark s in if eqb b m
 unfoldable pub named : String → List (List ℕ)
 named s = parted (code " ") (ascii s)
 
--- Booleans, 21 in the first edition
+-- how many names each list has; all of them; and where those of the strings start among all
+abbrev pub booleansNamed : ℕ
+booleansNamed = 21
+
+abbrev pub numbersNamed : ℕ
+numbersNamed = 8
+
+abbrev pub stringsNamed : ℕ
+stringsNamed = 138
+
+abbrev pub stringsFrom : ℕ
+stringsFrom = 29
+
+abbrev pub allNamed : ℕ
+allNamed = 167
+
+-- Booleans
 unfoldable pub booleanNames : List (List ℕ)
 booleanNames = named "bw am xsb xhp xenl eo gn hc km hs in da db mir msgr os eslok xt hz ul xon"
 
--- Numbers, 8
+-- Numbers
 unfoldable pub numberNames : List (List ℕ)
 numberNames = named "cols it lines lm xmc pb vt wsl"
 
--- Strings, 138
+-- Strings
 unfoldable pub stringNames : List (List ℕ)
 stringNames =
     named "cbt bel cr csr tbc clear el ed hpa cmdch cup cud1 home civis cub1 mrcup cnorm cuf1 ll cuu1"

@@ -13,7 +13,7 @@ use Rattle.names.specs.Naming.{packed, packedNames}
 unfoldable pub fitsTable : List ℕ → Bool
 fitsTable n = leb 2 (length n) && (leb (length n) 5 && not (eqb (getD n (length n - 1) 0) 0))
 
--- the number that stands for a name in the table; 0, which the table doesn't hold, for bytes that are no name of it
+-- the number that is looked for in the table; 0, which the table doesn't hold, for bytes that can't be a name of it
 unfoldable pub sought : List ℕ → ℕ
 sought n = if fitsTable n then packed n else 0
 

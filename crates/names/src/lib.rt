@@ -7,13 +7,13 @@ ghost use lib.Dec.{ltb};
 ghost use lib.ListN.{getD};
 ghost use Rattle.base.specs.If.{if_then_else_};
 ghost use Rattle.base.specs.Answer.{refused, gives};
-ghost use Rattle.names.specs.Names.{allNames};
+ghost use Rattle.names.specs.Names.{allNames, allNamed};
 ghost use Rattle.names.specs.Naming.{packed, packedNames, naming, saysName};
 use edition::Edition;
 use edition::Kind;
 use edition::Place;
 
-// How many names each list of the first edition has.
+// How many names each list has.
 pub const BOOLEANS: usize = 21;
 
 pub const NUMBERS: usize = 8;
@@ -212,7 +212,7 @@ pub enum Found {
 }
 
 fn packed_name(k: usize) -> u64
-    requires { ⌜ k < 167 ⌝ }
+    requires { ⌜ k < allNamed ⌝ }
     ensures { λ r. ⌜ r ≡ getD packedNames k 0 ⌝ }
 {
     NAMES[k]
@@ -220,7 +220,7 @@ fn packed_name(k: usize) -> u64
 
 // The name at a place of the list of count names that starts at first among all names.
 fn name_in(first: usize, count: usize, place: Place) -> Name
-    requires { ⌜ first + count ≤ 167 ⌝ }
+    requires { ⌜ first + count ≤ allNamed ⌝ }
     ensures { λ r. ⌜ saysName r ≡ (if ltb (place .0) count then gives (packed (getD allNames (first + place .0) []))
         else refused 17 []) ⌝ }
 {
@@ -243,7 +243,7 @@ pub fn name_of(kind: Kind, place: Place) -> Name
 
 // The first edition.
 pub const FIRST_EDITION: Edition = Edition {
-    booleans: BOOLEANS,
-    numbers: NUMBERS,
-    strings: STRINGS,
+    booleans: 21,
+    numbers: 8,
+    strings: 138,
 };

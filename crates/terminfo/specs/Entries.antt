@@ -8,5 +8,5 @@ use Rattle.terminfo.specs.declared.Entry.{Entry}
 use Rattle.entry_numbers.specs.Entries.{opened}
 
 -- "An opened entry keeps hold of the caller's bytes and knows where each table starts"
-abbrev pub entryOf : RefT (List ℕ) → Edition → Entry
-entryOf file e = record { file = file; numbers = opened e (now file) }
+abbrev pub openedEntry : RefT (List ℕ) → Edition → Entry
+openedEntry file e = record { file = file; numbers = opened e (now file) }

@@ -24,7 +24,8 @@ use Rattle.terminfo.specs.declared.ExpandedString.the-variants as X
 abbrev pub zeroLasting : List ℤ
 zeroLasting = replicate 26 (pos 0)
 
--- what expanding gives, the variables all 0, by what asking file f for the string gave: only a present one is expanded
+-- what expanding gives, the variables all 0, by what asking file f for the string gave. Left free by document 01: a
+-- string that isn't present. It is not expanded, and its state is the answer
 abbrev pub expandingAsked : List ℕ → List ℤ → ℕ → ℕ → Answer (State Part) → Answer (State Expanding)
 expandingAsked f arguments size at (refused n v) = refused n v
 expandingAsked f arguments size at (gives absent) = gives absent

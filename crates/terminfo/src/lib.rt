@@ -7,7 +7,7 @@ ghost use Rattle.entry.specs.Asking.{askingString};
 ghost use Rattle.entry.specs.Says.{saysNames, saysBoolean, saysNumber, saysString};
 ghost use Rattle.expansion.specs.Expanding.{expanding};
 ghost use Rattle.expand_output.specs.Answers.{LentAs};
-ghost use Rattle.terminfo.specs.Entries.{entryOf};
+ghost use Rattle.terminfo.specs.Entries.{openedEntry};
 ghost use Rattle.entry_numbers.specs.Entries.{entryRefusal, entryNames, entryBoolean, entryNumber, entryString};
 ghost use Rattle.entry_numbers.specs.Entries.{entryBeyond, saysBeyond};
 ghost use Rattle.terminfo.specs.Lent.{zeroLasting, expandingAt, WrittenAs};
@@ -43,7 +43,7 @@ pub struct StringPart<'a> {
 
 // Opens a file in an edition.
 pub fn open<'a>(file: &'a [u8], edition: Edition) -> Entry<'a>
-    ensures { λ r. ⌜ r ≡ entryOf (file .entry) edition ⌝ }
+    ensures { λ r. ⌜ r ≡ openedEntry (file .entry) edition ⌝ }
 {
     let numbers = entry_numbers::numbers_in(file, edition);
     Entry { file, numbers }

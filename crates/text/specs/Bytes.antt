@@ -1,5 +1,5 @@
--- Bytes of source text (document 01: Source text). A place past the text's end reads as byte 0, which none of these
--- rules takes.
+-- Bytes of source text (document 01: Source text). A place past the text's end reads as byte 0, which no rule inside a
+-- field takes; a run of bytes ends with the text.
 -- Assumes nothing.
 use mathlib.Core.Bool.{Bool, _&&_, _||_, not}
 use mathlib.Core.List.{List}

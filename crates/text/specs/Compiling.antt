@@ -7,10 +7,10 @@ use lib.Dec.{leb}
 use lib.ListN.{length}
 use Rattle.base.specs.If.{if_then_else_}
 use Rattle.edition.specs.declared.Edition.{Edition}
-use Rattle.entry.specs.Limits.{fileMost, givenNamesMost}
+use Rattle.entry.specs.Limits.{givenNamesMost}
 use Rattle.base.specs.Answer.{Answer, refused, gives}
 use Rattle.entry.specs.Reading.{Entry}
-use Rattle.entry.specs.Writing.{encode}
+use Rattle.entry.specs.Writing.{encode, fitting}
 use Rattle.text.specs.declared.TextRefusal.{TextRefusal}
 use Rattle.text.specs.declared.TextRefusal.the-variants as R
 use Rattle.text.specs.declared.Compiled.{Compiled}
@@ -19,16 +19,14 @@ use Rattle.text.specs.Bytes.{textMost}
 use Rattle.text.specs.Describing.{describing}
 
 -- "then names total above 127 (13), 9, 8"; room is the buffer's length, and what is given is the file
-unfoldable pub fitting : ℕ → Entry → Answer (List ℕ)
-fitting room x =
+unfoldable pub fittingNamed : ℕ → Entry → Answer (List ℕ)
+fittingNamed room x =
     if not (leb (length (x .names)) givenNamesMost) then refused 13 (0 ∷ [])
-    else if not (leb (length (encode x)) fileMost) then refused 9 []
-    else if not (leb (length (encode x)) room) then refused 8 (length (encode x) ∷ [])
-    else gives (encode x)
+    else fitting room (encode x)
 
 abbrev pub fitted : ℕ → Answer Entry → Answer (List ℕ)
 fitted room (refused n v) = refused n v
-fitted room (gives x) = fitting room x
+fitted room (gives x) = fittingNamed room x
 
 -- "Text: 1 first; then the first bad field"
 unfoldable pub compiling : Edition → List ℕ → ℕ → Answer (List ℕ)

@@ -27,7 +27,7 @@ use Rattle.text.specs.declared.Line.{Line}
 use Rattle.text.specs.declared.Line.the-variants.{End, Column, Indented}
 use Rattle.text.specs.declared.Header.{Header}
 use Rattle.text.specs.declared.Header.the-variants as H
-use Rattle.text.specs.Strings.{readAt, bytesOf}
+use Rattle.text.specs.Strings.{readAt, readBytes}
 use Rattle.text.specs.Lines.{lineAt, nextAt}
 use Rattle.text.specs.Fields.{fieldAt}
 use Rattle.text.specs.Heading.{namesTo, headerAt}
@@ -63,7 +63,8 @@ stringBy t p F.Boolean = refused 11 (p ∷ [])
 stringBy t p F.Cancelled = gives cancelled
 stringBy t p (F.Number v) = refused 11 (p ∷ [])
 stringBy t p F.LargeNumber = refused 11 (p ∷ [])
-stringBy t p (F.String i n) = if leb n contentMost then gives (present (bytesOf (readAt t i))) else refused 13 (p ∷ [])
+stringBy t p (F.String i n) =
+    if leb n contentMost then gives (present (readBytes (readAt t i))) else refused 13 (p ∷ [])
 
 unfoldable pub sayingOf : List ℕ → ℕ → FieldForm → Found → Answer Saying
 sayingOf t p f (N.Boolean q) = mapAnswer (boolean q) (booleanBy p f)
@@ -118,7 +119,8 @@ abbrev pub fieldTurn : List SayingAt → ℕ → Answer Judging → Turn FieldsR
 fieldTurn ss p (refused n v) = stop (refused n v)
 fieldTurn ss p (gives j) = go (withField ss p j)
 
--- "A second header is malformed"
+-- "A second header is malformed". Left free by document 01: its place. It is the line's own first byte, since a field
+-- that isn't indented can't be told from a second header
 abbrev pub lineTurn : Edition → List ℕ → List SayingAt → Line → Turn FieldsRead (Answer (List SayingAt))
 lineTurn e t ss End = stop (gives ss)
 lineTurn e t ss (Column p) = stop (refused 10 (p ∷ []))
@@ -176,7 +178,8 @@ headed e t i (H.Right c) = describedFrom e t (c + 1) (bare e (namesTo t i c))
 headed e t i H.Malformed = refused 10 (0 ∷ [])
 headed e t i H.LongAlias = refused 13 (0 ∷ [])
 
--- "and so is a text without one"
+-- "and so is a text without one". Left free by document 01: the place where the first line that counts is indented. It
+-- is 0, as for a header that is missing
 abbrev pub begun : Edition → List ℕ → Line → Answer Entry
 begun e t End = refused 10 (0 ∷ [])
 begun e t (Column i) = headed e t i (headerAt t i)

@@ -22,7 +22,7 @@ abbrev pub stringForm : ℕ → Content → Formed
 stringForm i (W.Whole n k) = G.Right (F.String i n) k
 stringForm i W.Malformed = G.Malformed
 
--- "Then nothing (boolean), `@` (cancelled, any kind), `#` and a C integer, or `=` and a string"
+-- "Then nothing (boolean), `@` (cancelled, any kind), `#` and a C integer .., or `=` and a string"
 unfoldable pub formAt : List ℕ → ℕ → Formed
 formAt t i =
     if getD t i 0 is "," then G.Right F.Boolean i

@@ -7,7 +7,7 @@ use Prim.Native.Nat.{ℕ, zero, suc, _+_, _-_, _*_}
 use lib.Dec.{eqb, leb}
 use lib.ListN.{getD}
 use Rattle.base.specs.If.{if_then_else_}
-use Rattle.entry.specs.Limits.{shortMost}
+use Rattle.entry.specs.Limits.{numberMost}
 use Rattle.text.specs.declared.NumberBase.{NumberBase}
 use Rattle.text.specs.declared.NumberBase.the-variants.{Octal, Decimal, Hexadecimal}
 use Rattle.text.specs.declared.ByteClass.the-variants as C
@@ -21,22 +21,19 @@ use Rattle.text.specs.Bytes.{_is_, digitOf, baseOf, runEnd}
 abbrev pub digitsMost : ℕ
 digitsMost = 99
 
-abbrev pub numberMost : ℕ
-numberMost = shortMost
-
 -- v with n more digits of a base, from place i on
 unfoldable pub withDigits : ℕ → List ℕ → ℕ → ℕ → ℕ → ℕ
 withDigits base t i zero v = v
 withDigits base t i (suc n) v = withDigits base t (suc i) n (v * base + digitOf (getD t i 0))
 
 -- a number of value v and n digits
-unfoldable pub numberOf : ℕ → ℕ → FieldForm
-numberOf v n = if leb v numberMost && leb n digitsMost then F.Number v else F.LargeNumber
+unfoldable pub numberForm : ℕ → ℕ → FieldForm
+numberForm v n = if leb v numberMost && leb n digitsMost then F.Number v else F.LargeNumber
 
 -- the digits from i to e
 unfoldable pub digitsIn : NumberBase → List ℕ → ℕ → ℕ → Formed
 digitsIn base t i e =
-    if eqb e i then Malformed else Right (numberOf (withDigits (baseOf base) t i (e - i) 0) (e - i)) e
+    if eqb e i then Malformed else Right (numberForm (withDigits (baseOf base) t i (e - i) 0) (e - i)) e
 
 abbrev pub digitsAt : NumberBase → List ℕ → ℕ → Formed
 digitsAt base t i = digitsIn base t i (runEnd (C.Digit base) t i)

@@ -113,9 +113,9 @@ readFrom t s = loop (λ (r : Reading). length t - r .at) (readTurn t) malformed 
 abbrev pub readAt : List ℕ → ℕ → Read
 readAt t i = readFrom t (record { at = i; bytes = [] })
 
-unfoldable pub bytesOf : Read → List ℕ
-bytesOf (whole s k) = s
-bytesOf malformed = []
+unfoldable pub readBytes : Read → List ℕ
+readBytes (whole s k) = s
+readBytes malformed = []
 
 -- the same with the bytes counted only
 unfoldable pub contentOf : Read → Content

@@ -10,7 +10,7 @@ pub const ALIAS_MOST: usize = 14;
 // A number's most digits, and its most.
 pub const DIGITS_MOST: usize = 99;
 
-pub const NUMBER_MOST: usize = 32767;
+pub const NUMBER_MOST: usize = entry::NUMBER_MOST as usize;
 
 // Classes of bytes.
 pub enum ByteClass {
@@ -131,7 +131,7 @@ pub enum Said {
 }
 
 // What judging a field answers.
-pub enum Judged {
+pub enum FieldJudged {
     // what it says, and the place past it
     Said(Said, usize),
     Refused(TextRefusal),

@@ -1,5 +1,5 @@
 // The file of a description, its strings read from the text once more (document 01: Compiled entry). Proved: `write`
-// puts what `fitting` of text/specs gives. Assumed: nothing.
+// puts what `fittingNamed` of text/specs gives. Assumed: nothing.
 ghost use mathlib.Core.Path.{_≡_};
 ghost use mathlib.Core.Bool.{true};
 ghost use mathlib.Core.List.{[], _∷_};
@@ -11,8 +11,8 @@ ghost use Rattle.edition.specs.Edition.{okEdition};
 ghost use Rattle.base.specs.Answer.{Leaves};
 ghost use Rattle.entry.specs.Writing.{stateOf, stringTable};
 ghost use Rattle.put.specs.Table.{tableBytes};
-ghost use Rattle.text.specs.Strings.{readAt, bytesOf};
-ghost use Rattle.text.specs.Compiling.{fitting, saysCompiled};
+ghost use Rattle.text.specs.Strings.{readAt, readBytes};
+ghost use Rattle.text.specs.Compiling.{fittingNamed, saysCompiled};
 ghost use Rattle.judge.specs.Judged.{StandsAt};
 ghost use Rattle.entry.specs.Handed.{handed, stringsHanded};
 ghost use Rattle.compile_laws.specs.Held.{textString, textEntry, Holds, TableFits};
@@ -28,7 +28,7 @@ fn put_string(b: &mut [u8], at: usize, kind: u8, start: usize, size: usize, text
     requires { ⌜ (at + tableBytes (stateOf kind size) ≤ length (now b))
         × (kind ≡ 1 → StandsAt (now text) start size) ⌝ }
     ensures { λ _. ⌜ now (b .exit) ≡ putAt (now (b .entry)) at
-        (stringTable (stateOf kind (bytesOf (readAt (now (text .entry)) start)) ∷ [])) ⌝ }
+        (stringTable (stateOf kind (readBytes (readAt (now (text .entry)) start)) ∷ [])) ⌝ }
 {
     if kind != PRESENT {
         return;
@@ -79,7 +79,7 @@ pub fn write(
     requires { ⌜ (okEdition edition ≡ true) × Holds edition
         (handed (now names) (now «boolean_kinds») (now «number_kinds») (now «number_values») (now «string_kinds»)
         (now «string_starts») (now «string_lengths») (now text)) ⌝ }
-    ensures { λ r. ⌜ Leaves (fitting (length (now (buffer .entry)))
+    ensures { λ r. ⌜ Leaves (fittingNamed (length (now (buffer .entry)))
         (textEntry edition (handed (now (names .entry)) (now («boolean_kinds» .entry)) (now («number_kinds» .entry))
         (now («number_values» .entry)) (now («string_kinds» .entry)) (now («string_starts» .entry))
         (now («string_lengths» .entry)) (now (text .entry))))) (now (buffer .entry)) (now (buffer .exit))

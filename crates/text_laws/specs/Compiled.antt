@@ -25,11 +25,11 @@ use Rattle.text.specs.Bytes.{textMost}
 use Rattle.text.specs.Lines.{lineAt}
 use Rattle.text.specs.Heading.{namesTo, headerAt}
 use Rattle.text.specs.Describing.{bare, headed, begun, describing}
-use Rattle.text.specs.Compiling.{fitting, fitted, compiling}
+use Rattle.text.specs.Compiling.{fittingNamed, fitted, compiling}
 use Rattle.text_laws.specs.DescribingLaws.{Sound-states, fields-sound, bare-sound}
 use Rattle.text_laws.specs.HeadingLaws.{names-free, names-some, header-right}
 
--- ---- "a text is compiled exactly when no refusal applies"
+-- ---- when a text is compiled
 
 -- what a text must meet, room apart: x is the entry that it describes
 pub record TextMeets (e : Edition) (t : List ℕ) (x : Entry) : Type 0 where
@@ -40,7 +40,7 @@ pub record TextMeets (e : Edition) (t : List ℕ) (x : Entry) : Type 0 where
 
 pub compiled-if : (e : Edition) (t : List ℕ) (room : ℕ) (x : Entry) → TextMeets e t x → length (encode x) ≤ room
     → compiling e t room ≡ gives (encode x)
-unfolding compiling fitting
+unfolding compiling fittingNamed
 compiled-if e t room x m h =
     rw (
       le-leb (length t) textMost (m .short),
@@ -59,7 +59,7 @@ pub record CompiledFrom (e : Edition) (t : List ℕ) (room : ℕ) (f : List ℕ)
 
 pub compiled-only-if : (e : Edition) (t : List ℕ) (room : ℕ) (f : List ℕ) → compiling e t room ≡ gives f
     → CompiledFrom e t room f
-unfolding compiling fitting
+unfolding compiling fittingNamed
 compiled-only-if e t room f w =
     let p = test-passed (leb (length t) textMost) 1 [] (fitted room (describing e t)) f w in
     by-entry (leb-true _ _ (p .0)) (describing e t) refl (p .1)

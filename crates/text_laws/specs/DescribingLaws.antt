@@ -20,6 +20,7 @@ use Rattle.text.specs.Describing.{standing, with-saying, described, bare, descr
 use Rattle.text_laws.specs.JudgingLaws.{refused-gives, given-is, Fits, judged-fits}
 use Rattle.text_laws.specs.SayingsLaws.{sayings-end, sayings-column, sayings-bad, sayings-field}
 use Rattle.text_laws.specs.SayingsLaws.{SaidIn, sayings-said}
+use Rattle.entry_laws.specs.Merge.{over-has}
 
 -- ---- reading and adding what is said, field by field
 
@@ -59,12 +60,6 @@ each-set : {A : Type 0} (P : A → Type 0) (xs : List A) (p : ℕ) (v : A) → E
 each-set P [] p v h w = tt
 each-set P (x ∷ xs) zero v h w = (w, h .1)
 each-set P (x ∷ xs) (suc p) v h w = (h .0, each-set P xs p v (h .1) w)
-
-over-has : {A : Type 0} (P : State A → Type 0) (a b : State A) → P a → P b → P (over a b)
-unfolding over
-over-has P absent b h w = w
-over-has P cancelled b h w = h
-over-has P (present x) b h w = h
 
 each-getD : {A : Type 0} (P : A → Type 0) (xs : List A) (p : ℕ) (d : A) → Each P xs → P d → P (getD xs p d)
 each-getD P [] p d h w = w

@@ -19,8 +19,9 @@ use Rattle.text.specs.declared.Formed.the-variants as G
 use Rattle.text.specs.declared.Field.{Field}
 use Rattle.text.specs.declared.Field.the-variants.{Right, Malformed}
 use Rattle.text.specs.Bytes.{runEnd, baseOf}
-use Rattle.text.specs.Strings.{Read, whole, malformed, readAt, bytesOf, contentOf}
-use Rattle.text.specs.Numbers.{numberMost, digitsMost, withDigits, numberOf, digitsIn, digitsAt, numberAt}
+use Rattle.text.specs.Strings.{Read, whole, malformed, readAt, readBytes, contentOf}
+use Rattle.entry.specs.Limits.{numberMost}
+use Rattle.text.specs.Numbers.{digitsMost, withDigits, numberForm, digitsIn, digitsAt, numberAt}
 use Rattle.text.specs.Fields.{stringForm, formAt, closed, namedAt, fieldAt}
 use Rattle.text_laws.specs.Runs.{run-ge, within}
 use Rattle.text_laws.specs.Reads.{if-both, read-after}
@@ -37,7 +38,7 @@ FormRight t F.Boolean = Unit {0}
 FormRight t F.Cancelled = Unit {0}
 FormRight t (F.Number v) = v ≤ numberMost
 FormRight t F.LargeNumber = Unit {0}
-FormRight t (F.String s n) = (readAt t s ≡ malformed → ⊥) × (n ≡ length (bytesOf (readAt t s)))
+FormRight t (F.String s n) = (readAt t s ≡ malformed → ⊥) × (n ≡ length (readBytes (readAt t s)))
 
 -- and the form's end is not before its place
 abbrev FormedRight : List ℕ → ℕ → Formed → Type 0
@@ -45,8 +46,8 @@ FormedRight t i (G.Right f k) = (i ≤ k) × FormRight t f
 FormedRight t i G.Malformed = Unit {0}
 
 module _ (t : List ℕ) where
-  number-right : (v n : ℕ) → FormRight t (numberOf v n)
-  unfolding numberOf
+  number-right : (v n : ℕ) → FormRight t (numberForm v n)
+  unfolding numberForm
   number-right v n =
       if-both (FormRight t) (leb v numberMost && leb n digitsMost)
       (λ e. leb-true v numberMost (and-left (leb v numberMost) (leb n digitsMost) e)) (λ _. tt)
@@ -71,7 +72,7 @@ module _ (t : List ℕ) where
       (λ _. digits-right Decimal p i l)
 
   string-right : (p i : ℕ) → p ≤ i → FormedRight t p (stringForm i (contentOf (readAt t i)))
-  unfolding contentOf bytesOf
+  unfolding contentOf readBytes
   string-right p i l = by-read (readAt t i) refl
     where
       by-read : (r : Read) → readAt t i ≡ r → FormedRight t p (stringForm i (contentOf r))
@@ -81,7 +82,7 @@ module _ (t : List ℕ) where
             (
               (λ m. let q : whole s k ≡ malformed = sym e ∙ m in let z : _≡_ {A = ℕ} 0 1 = cc in omega arith),
               ap
-                  (λ r. length (bytesOf r)) (sym e),
+                  (λ r. length (readBytes r)) (sym e),
             ),
           )
       by-read malformed e = tt
@@ -161,7 +162,7 @@ module _ (t : List ℕ) (p : ℕ) where
   field-after dropped i k f next e = subst (FieldRight t p) e field-right .0
 
   pub field-string : (dropped : Bool) (i k s n next : ℕ) → fieldAt t p ≡ Right dropped i k (F.String s n) next
-      → (readAt t s ≡ malformed → ⊥) × (n ≡ length (bytesOf (readAt t s)))
+      → (readAt t s ≡ malformed → ⊥) × (n ≡ length (readBytes (readAt t s)))
   field-string dropped i k s n next e = subst (FieldRight t p) e field-right .1
 
   pub field-number : (dropped : Bool) (i k v next : ℕ) → fieldAt t p ≡ Right dropped i k (F.Number v) next

@@ -12,7 +12,7 @@ use lib.Seq.{getD-take, getD-drop, drop-drop, length-take-le}
 use borrow.Author.Tests.{leb-true, le-leb, eqb-true, eqb-false, eq-eqb, ne-eqb, not-true, not-false, leb-false}
 use borrow.Author.Tests.{lt-leb, lt-ltb, le-ltb}
 use Rattle.base.specs.If.{if_then_else_}
-use Rattle.base.proofs.IfLaws.{true-false, and-left, and-right, below-or}
+use Rattle.base.proofs.IfLaws.{true-false, and-left, and-right, below-or, is-false}
 use Rattle.base.specs.Scan.{scan, every}
 use Rattle.base.proofs.ScanLaws.{scan-all, scan-ge, scan-before, scan-fails, every-at, every-all}
 use Rattle.base.specs.Tabulate.{Each}
@@ -160,10 +160,6 @@ module _ (n : List ℕ) (start i : ℕ) (p : Passed n start i) where
   passed-all l = sym (long-last n start (λ j a b. p .name j a (omega arith))) ∙ p .rest
 
 -- ---- a name of one class of bytes
-
-is-false : (b : Bool) → (b ≡ true → ⊥) → b ≡ false
-is-false true h = absurd (h refl)
-is-false false h = refl
 
 and-false : (b : Bool) → (b && false) ≡ false
 and-false true = refl

@@ -11,7 +11,7 @@ use Rattle.base.specs.If.{if_then_else_}
 use Rattle.base.specs.Answer.{Answer, refused, gives, mapAnswer}
 use Rattle.edition.specs.declared.Edition.{Edition}
 use Rattle.edition.specs.declared.Place.{Place}
-use Rattle.entry.specs.Limits.{contentMost}
+use Rattle.entry.specs.Limits.{contentMost, numberMost}
 use Rattle.entry.specs.State.{present}
 use Rattle.entry_laws.specs.Sound.{NumberFits, ContentFree}
 use Rattle.names.specs.declared.Found.{Found}
@@ -21,8 +21,7 @@ use Rattle.text.specs.declared.FieldForm.{FieldForm}
 use Rattle.text.specs.declared.FieldForm.the-variants as F
 use Rattle.text.specs.declared.Field.{Field}
 use Rattle.text.specs.declared.Field.the-variants as G
-use Rattle.text.specs.Strings.{readAt, bytesOf}
-use Rattle.text.specs.Numbers.{numberMost}
+use Rattle.text.specs.Strings.{readAt, readBytes}
 use Rattle.text.specs.Fields.{fieldAt}
 use Rattle.text.specs.Describing.{Saying, nothing, boolean, number, string, booleanBy, numberBy, stringBy}
 use Rattle.text.specs.Describing.{sayingOf, isUse, namedSaying, Judging, judgingOf, judging}
@@ -111,7 +110,7 @@ module _ (t : List ℕ) (p : ℕ) where
   string-fits q (F.String i n) s w = by-test (leb n contentMost) w
     where
       by-test : (b : Bool)
-          → mapAnswer (string q) (if b then gives (present (bytesOf (readAt t i))) else refused 13 (p ∷ [])) ≡ gives s
+          → mapAnswer (string q) (if b then gives (present (readBytes (readAt t i))) else refused 13 (p ∷ [])) ≡ gives s
           → Fits s
       by-test true u = subst Fits (given-is u) (read-free t i)
       by-test false u = refused-gives u

@@ -19,7 +19,8 @@ use Rattle.text.specs.declared.FieldForm.{FieldForm}
 use Rattle.text.specs.declared.FieldForm.the-variants as F
 use Rattle.text.specs.declared.Formed.the-variants.{Right, Malformed}
 use Rattle.text.specs.Bytes.{digitOf, baseOf, runEnd}
-use Rattle.text.specs.Numbers.{numberMost, digitsMost, withDigits, numberOf, digitsIn, digitsAt}
+use Rattle.entry.specs.Limits.{numberMost}
+use Rattle.text.specs.Numbers.{digitsMost, withDigits, numberForm, digitsIn, digitsAt}
 use Rattle.text_laws.specs.Runs.{run-end, run-ge, run-le}
 
 -- more digits give no less
@@ -88,13 +89,13 @@ module _ (base : NumberBase) (t : List ℕ) (i e : ℕ) (q : e ≡ runEnd (C.Dig
         below-or i (length t) (λ l. rw q (run-le (C.Digit base) t i (omega arith)))
         (λ l. absurd (n (q ∙ run-end (C.Digit base) t i l)))
 
-    digits-are : (f : FieldForm) → numberOf (withDigits (baseOf base) t i (e - i) 0) (e - i) ≡ f
+    digits-are : (f : FieldForm) → numberForm (withDigits (baseOf base) t i (e - i) 0) (e - i) ≡ f
         → Right f e ≡ digitsAt base t i
     unfolding digitsIn
     digits-are f h = rw (← q, ne-eqb e i n, h)
 
     pub digits-many : digitsMost < e - i → Right F.LargeNumber e ≡ digitsAt base t i
-    unfolding numberOf
+    unfolding numberForm
     digits-many l =
         digits-are F.LargeNumber (rw (lt-leb (e - i) digitsMost l)
         (by-test (leb (withDigits (baseOf base) t i (e - i) 0) numberMost)))
@@ -108,12 +109,12 @@ module _ (base : NumberBase) (t : List ℕ) (i e : ℕ) (q : e ≡ runEnd (C.Dig
     module _ (v : ℕ) (m : v ≡ min (withDigits (baseOf base) t i (e - i) 0) (numberMost + 1)) (l : e - i ≤ digitsMost)
       where
         pub digits-large : numberMost < v → Right F.LargeNumber e ≡ digitsAt base t i
-        unfolding numberOf
+        unfolding numberForm
         digits-large h =
             digits-are F.LargeNumber (rw (lt-leb (withDigits (baseOf base) t i (e - i) 0) numberMost (omega arith)))
 
         pub digits-small : v ≤ numberMost → Right (F.Number v) e ≡ digitsAt base t i
-        unfolding numberOf
+        unfolding numberForm
         digits-small h =
             let k : withDigits (baseOf base) t i (e - i) 0 ≡ v = omega arith in
             digits-are (F.Number v) (rw (k, le-leb v numberMost h, le-leb (e - i) digitsMost l))

@@ -20,7 +20,7 @@ use Rattle.text.specs.declared.StringItem.{StringItem}
 use Rattle.text.specs.declared.StringItem.the-variants.{End, Byte, Removed, Malformed}
 use Rattle.text.specs.Bytes.{between, isBlank, runEnd}
 use Rattle.text.specs.Strings.{digitAt, letterOf, octalOf, escapeAt, isControl, caretAt, lineEndAt, stringItemAt}
-use Rattle.text.specs.Strings.{storedByte, Reading, Read, whole, malformed, readTurn, readFrom, readAt, bytesOf}
+use Rattle.text.specs.Strings.{storedByte, Reading, Read, whole, malformed, readTurn, readFrom, readAt, readBytes}
 use Rattle.text.specs.Strings.{contentOf}
 use Rattle.text_laws.specs.Runs.{run-ge}
 
@@ -221,25 +221,25 @@ stored-free b =
 abbrev Free : List ℕ → Type 0
 Free xs = Each (λ (b : ℕ). b ≡ 0 → ⊥) xs
 
-from-free : (t : List ℕ) (s : Reading) → Free (s .bytes) → Free (bytesOf (readFrom t s))
-unfolding bytesOf
+from-free : (t : List ℕ) (s : Reading) → Free (s .bytes) → Free (readBytes (readFrom t s))
+unfolding readBytes
 from-free t =
-    read-ind t (λ (s : Reading) (r : Read). Free (s .bytes) → Free (bytesOf r))
+    read-ind t (λ (s : Reading) (r : Read). Free (s .bytes) → Free (readBytes r))
     (λ s e h. h)
     (λ s h. tt)
     (λ s r b k l h f. h (each-more (λ (b : ℕ). b ≡ 0 → ⊥) (s .bytes) (storedByte b) f (stored-free b)))
     (λ s r k l h f. h f)
 
-pub read-free : (t : List ℕ) (i : ℕ) → Each (λ (b : ℕ). b ≡ 0 → ⊥) (bytesOf (readAt t i))
+pub read-free : (t : List ℕ) (i : ℕ) → Each (λ (b : ℕ). b ≡ 0 → ⊥) (readBytes (readAt t i))
 read-free t i = from-free t (record { at = i; bytes = [] }) tt
 
 -- ---- the bytes that were read are the first of the whole string's
 
 read-more : (t : List ℕ) (s : Reading) → (readFrom t s ≡ malformed → ⊥) → (more : List ℕ)
-    × (s .bytes ++ more ≡ bytesOf (readFrom t s))
-unfolding bytesOf
+    × (s .bytes ++ more ≡ readBytes (readFrom t s))
+unfolding readBytes
 read-more t =
-    read-ind t (λ (s : Reading) (r : Read). (r ≡ malformed → ⊥) → (more : List ℕ) × (s .bytes ++ more ≡ bytesOf r))
+    read-ind t (λ (s : Reading) (r : Read). (r ≡ malformed → ⊥) → (more : List ℕ) × (s .bytes ++ more ≡ readBytes r))
     (λ s e w. ([], append-nil (s .bytes)))
     (λ s w. absurd (w refl))
     (λ s r b k l h w. let g = h w in (
@@ -250,7 +250,7 @@ read-more t =
     (λ s r k l h w. h w)
 
 pub read-grows : (t : List ℕ) (s : Reading) → (readFrom t s ≡ malformed → ⊥)
-    → length (s .bytes) ≤ length (bytesOf (readFrom t s))
+    → length (s .bytes) ≤ length (readBytes (readFrom t s))
 read-grows t s w =
     let g = read-more t s w in let n = length-append (s .bytes) (g .0) in let m = ap length (g .1) in omega arith
 
@@ -260,7 +260,7 @@ no-more (x ∷ xs) z = absurd (omega arith)
 
 -- a string all of whose bytes were read
 pub read-all : (t : List ℕ) (s : Reading) → (readFrom t s ≡ malformed → ⊥)
-    → length (s .bytes) ≡ length (bytesOf (readFrom t s)) → s .bytes ≡ bytesOf (readFrom t s)
+    → length (s .bytes) ≡ length (readBytes (readFrom t s)) → s .bytes ≡ readBytes (readFrom t s)
 read-all t s w q =
     let g = read-more t s w in
     let n = length-append (s .bytes) (g .0) in

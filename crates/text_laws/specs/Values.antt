@@ -27,13 +27,13 @@ use Rattle.text.specs.declared.Header.the-variants as H
 use Rattle.text.specs.declared.Line.{Line}
 use Rattle.text.specs.declared.Line.the-variants.{End, Column, Indented}
 use Rattle.text.specs.Bytes.{textMost}
-use Rattle.text.specs.Strings.{readAt, bytesOf}
+use Rattle.text.specs.Strings.{readAt, readBytes}
 use Rattle.text.specs.Lines.{lineAt, nextAt}
 use Rattle.text.specs.Fields.{fieldAt}
 use Rattle.text.specs.Heading.{headerAt}
 use Rattle.text.specs.Describing.{nothing, booleanBy, numberBy, stringBy, sayingOf, isUse, namedSaying}
 use Rattle.text.specs.Describing.{judgingOf, judging, SayingAt, FieldsRead, sayingsFrom, headed, begun, describing}
-use Rattle.text.specs.Compiling.{fitting, fitted, compiling}
+use Rattle.text.specs.Compiling.{fittingNamed, fitted, compiling}
 use Rattle.text_laws.specs.LineLaws.{LineAfter, next-after}
 use Rattle.text_laws.specs.SayingsLaws.{sayings-ind}
 
@@ -68,7 +68,7 @@ string-at t p (F.Number v) = refl
 string-at t p F.LargeNumber = refl
 string-at t p (F.String i n) = by-test (leb n contentMost)
   where
-    by-test : (b : Bool) → At p (if b then gives (present (bytesOf (readAt t i))) else refused 13 (p ∷ []))
+    by-test : (b : Bool) → At p (if b then gives (present (readBytes (readAt t i))) else refused 13 (p ∷ []))
     by-test true = tt
     by-test false = refl
 
@@ -152,7 +152,7 @@ Bounded (refused n v) = getD v 0 0 ≤ textMost
 Bounded (gives n) = n ≤ fileMost
 
 pub compiling-bounded : (e : Edition) (t : List ℕ) (room : ℕ) → Bounded (mapAnswer length (compiling e t room))
-unfolding compiling fitting
+unfolding compiling fittingNamed
 compiling-bounded e t room = by-length (leb (length t) textMost) refl
   where
     by-room : (x : Entry) → length (encode x) ≤ fileMost → (b : Bool)

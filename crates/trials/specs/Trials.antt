@@ -59,7 +59,7 @@ abbrev pub backslashed : String → List ℕ
 backslashed s = 92 ∷ ascii s
 
 abbrev pub content : List ℕ → List ℕ
-content t = Strings.bytesOf (Strings.readAt t 0)
+content t = Strings.readBytes (Strings.readAt t 0)
 
 -- a string expanded with two arguments, the others 0, into 100 bytes
 abbrev pub at : List ℕ → ℤ → ℤ → Answer Expanding
@@ -126,5 +126,5 @@ unfolding trials ascii opening okEdition reading sizesOf word okCounts okNames s
     applied inverted character loaded stored incremented arity effect performed taking passing passed running
     run ended formed expanding turns loop Bytes.isBlank Bytes.digitOf Bytes.isIn Bytes.runEnd Strings.letterOf
     Strings.octalOf Strings.escapeAt Strings.isControl Strings.caretAt Strings.lineEndAt Strings.stringItemAt
-    Strings.storedByte Strings.readTurn Strings.readFrom Strings.bytesOf
+    Strings.storedByte Strings.readTurn Strings.readFrom Strings.readBytes
 trials-hold = refl

@@ -12,8 +12,8 @@ use Rattle.text.specs.declared.Line.the-variants.{End, Column, Indented}
 use Rattle.text.specs.declared.TextRefusal.{TextRefusal}
 use Rattle.text.specs.declared.TextRefusal.the-variants as R
 use Rattle.text.specs.declared.Said.{Said}
-use Rattle.text.specs.declared.Judged.{Judged}
-use Rattle.text.specs.declared.Judged.the-variants as J
+use Rattle.text.specs.declared.FieldJudged.{FieldJudged}
+use Rattle.text.specs.declared.FieldJudged.the-variants as J
 use Rattle.text.specs.Lines.{nextAt}
 use Rattle.text.specs.Describing.{with-saying, Judging, judging, describedFrom}
 use Rattle.text.specs.Compiling.{textNumber}
@@ -48,7 +48,7 @@ module _ (e : Edition) (at i : ℕ) (before now : List ℕ → Handed) (w : Walk
   walk-column p q =
       record { holds = w .holds; entry = λ n. w .entry n ∙ described-column e t i (textEntry e (now n)) p q }
 
-  pub walk-refused : (p : ℕ) (j : Judged) (why : TextRefusal) → nextAt t i ≡ Indented p
+  pub walk-refused : (p : ℕ) (j : FieldJudged) (why : TextRefusal) → nextAt t i ≡ Indented p
       → saysJudged t p j ≡ judging e t p
       → j ≡ J.Refused why → Walks e at before now (W.Refused why p)
   walk-refused p j why q r u =
@@ -58,7 +58,7 @@ module _ (e : Edition) (at i : ℕ) (before now : List ℕ → Handed) (w : Walk
             ∙ described-bad e t i (textEntry e (now n)) p (textNumber why) (p ∷ []) q (sym r ∙ ap (saysJudged t p) u);
       }
 
-  pub walk-go : (p : ℕ) (j : Judged) (s : Said) (next : ℕ) (after : List ℕ → Handed) → nextAt t i ≡ Indented p
+  pub walk-go : (p : ℕ) (j : FieldJudged) (s : Said) (next : ℕ) (after : List ℕ → Handed) → nextAt t i ≡ Indented p
       → saysJudged t p j ≡ judging e t p → j ≡ J.Said s next → now [] .lent ≡ t → Keeps e now after s
       → Walking e at next before after
   walk-go p j s next after q r u l k =
@@ -75,7 +75,7 @@ module _ (e : Edition) (at i : ℕ) (before now : List ℕ → Handed) (w : Walk
 pub walk-place : (t : List ℕ) (i p : ℕ) → nextAt t i ≡ Indented p → p < length t
 walk-place t i p q = subst (LineAfter t i) q (next-after t i) .1
 
-pub walk-forward : (e : Edition) (t : List ℕ) (i p : ℕ) (j : Judged) (s : Said) (next : ℕ) → nextAt t i ≡ Indented p
+pub walk-forward : (e : Edition) (t : List ℕ) (i p : ℕ) (j : FieldJudged) (s : Said) (next : ℕ) → nextAt t i ≡ Indented p
     → saysJudged t p j ≡ judging e t p → j ≡ J.Said s next → length t - next < length t - i
 walk-forward e t i p j s next q r u =
     let f = judged-field e t p (record { saying = sayingSaid t s; next = next }) (sym r ∙ ap (saysJudged t p) u) in

@@ -5,7 +5,7 @@ ghost use Rattle.entry.specs.Handed.{handed};
 ghost use Rattle.compile_laws.specs.Held.{Holds};
 ghost use Rattle.walk_fields.specs.Walks.{Walks};
 use edition::Edition;
-use text::Judged;
+use text::FieldJudged;
 use text::Line;
 use text::TextRefusal;
 
@@ -46,10 +46,10 @@ pub fn walk(
                 return Walked::Refused(TextRefusal::Malformed, p);
             }
             Line::Indented(p) => match judge::judge(text, p, edition) {
-                Judged::Refused(why) => {
+                FieldJudged::Refused(why) => {
                     return Walked::Refused(why, p);
                 }
-                Judged::Said(said, next) => {
+                FieldJudged::Said(said, next) => {
                     kept_states::keep(
                         text,
                         edition,

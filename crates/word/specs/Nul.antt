@@ -10,6 +10,6 @@ use Rattle.base.specs.Scan.{scan}
 abbrev pub notNul : List ℕ → ℕ → Bool
 notNul f i = not (eqb (getD f i 0) 0)
 
--- the place of f's first NUL from a on and before e; e where there is none
+-- the place of f's first NUL from a on and before e, which is not below a; e where there is none
 abbrev pub nulFrom : List ℕ → ℕ → ℕ → ℕ
 nulFrom f a e = scan (notNul f) a (e - a)

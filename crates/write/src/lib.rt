@@ -6,7 +6,7 @@ ghost use Rattle.base.specs.Answer.{Leaves};
 ghost use Rattle.entry.specs.Writing.{writing};
 ghost use Rattle.entry.specs.Says.{saysWritten};
 ghost use Rattle.entry.specs.Handed.{handed};
-ghost use Rattle.write_laws.specs.Answers.{Judged, Wrote};
+ghost use Rattle.write_laws.specs.Answers.{LimitsPassed, Wrote};
 use edition::Edition;
 use entry::FILE_MOST;
 use entry::Written;
@@ -25,7 +25,8 @@ fn write_lent(
     lent: &[u8],
     buffer: &mut [u8],
 ) -> Written
-    requires { ⌜ Judged edition (handed (now names) (now «boolean_kinds») (now «number_kinds») (now «number_values»)
+    requires { ⌜ LimitsPassed edition (handed (now names) (now «boolean_kinds») (now «number_kinds»)
+        (now «number_values»)
         (now «string_kinds») (now «string_starts») (now «string_lengths») (now lent)) ⌝ }
     ensures { λ r. ⌜ Wrote edition (handed (now (names .entry)) (now («boolean_kinds» .entry))
         (now («number_kinds» .entry)) (now («number_values» .entry)) (now («string_kinds» .entry))

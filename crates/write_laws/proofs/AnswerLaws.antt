@@ -29,7 +29,8 @@ use Rattle.put.proofs.TableLaws.{state-none, bytes-present, bytes-none, lent-de
 use Rattle.entry.specs.Handed.{withLent}
 use Rattle.write_laws.specs.File.{sizesHanded, Given, Sure}
 use Rattle.write_laws.proofs.FileLaws.{length-with}
-use Rattle.write_laws.specs.Answers.{Judged, Wrote}
+use Rattle.write_laws.specs.Answers.{LimitsPassed, Wrote}
+use Rattle.entry_laws.specs.Merge.{edition-counts}
 
 -- ---- enough states
 
@@ -44,15 +45,6 @@ enough e h t =
       stringStarts = f .1 .1 .1 .0;
       stringLengths = f .1 .1 .1 .1;
     }
-
-pub edition-facts : (e : Edition) → okEdition e ≡ true → (e .booleans ≤ booleansMost) × ((e .numbers ≤ numbersMost) × (e .strings ≤ stringsMost))
-unfolding okEdition
-edition-facts e t =
-    let b = leb (e .booleans) booleansMost in
-    let n = leb (e .numbers) numbersMost in
-    let s = leb (e .strings) stringsMost in
-    let r = and-right b (n && s) t in
-    (leb-true _ _ (and-left b (n && s) t), (leb-true _ _ (and-left n s r), leb-true _ _ (and-right n s r)))
 
 -- ---- one state
 
@@ -101,7 +93,7 @@ total-most kinds lengths (suc n) h =
       | no e ↦ (let r = bytes-none (getD kinds n 0) (getD lengths n 0) e in omega arith)
     ]
 
-module _ (e : Edition) (h : Handed) (j : Judged e h) where
+module _ (e : Edition) (h : Handed) (j : LimitsPassed e h) where
   pub length-handed : length (encode (entryOf e h)) ≡ sizeOf (sizesHanded e h)
   unfolding entryOf
   length-handed = length-with e h (stringHanded h) (lent-described (h .stringKinds) (h .stringStarts) (h .stringLengths) (h .lent) (e .strings) (lent-at h (e .strings) (j .lent)))
@@ -117,7 +109,7 @@ module _ (e : Edition) (h : Handed) (j : Judged e h) where
   pub size-fits : statesFit e h ≡ true → sizeOf (sizesHanded e h) < 1000000
   size-fits t =
       let n = names-facts (h .names) (j .named) .0 .1 in
-      let k = edition-facts e (enough-facts e h (j .enough) .0) in
+      let k = edition-counts e (enough-facts e h (j .enough) .0) in
       let r = total-most (h .stringKinds) (h .stringLengths) (e .strings) (short-at t) in
       omega arith
 
@@ -157,7 +149,7 @@ module _ (e : Edition) (h : Handed) (b : List ℕ) where
     unfolding writing
     refuse-7 n t = (rw (s, n, t), rw (s, n, t))
 
-  module _ (j : Judged e h) where
+  module _ (j : LimitsPassed e h) where
     pub refuse-13 : statesFit e h ≡ false → Wrote e h b b (refused 13 [])
     unfolding writing
     refuse-13 t = (rw (j .enough, j .named, j .lent, t), rw (j .enough, j .named, j .lent, t))

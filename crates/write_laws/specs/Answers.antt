@@ -11,7 +11,7 @@ use Rattle.base.specs.Answer.{Answer, Leaves}
 use Rattle.entry.specs.Writing.{Handed, enoughStates, namesFit, isLent, writing}
 
 -- neither 3 nor 4 nor 7
-pub record Judged (e : Edition) (h : Handed) : Type 0 where
+pub record LimitsPassed (e : Edition) (h : Handed) : Type 0 where
   pub enough : enoughStates e h ≡ true
   pub named : namesFit (h .names) ≡ true
   pub lent : every (isLent h) (e .strings) ≡ true

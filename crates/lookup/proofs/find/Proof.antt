@@ -10,6 +10,7 @@ use Rattle.names.specs.Searching.{searching}
 use Rattle.names.proofs.LookupLaws.{Bytes, TablePlace, found-boolean, found-number, found-string, found-none}
 use Rattle.lookup.proofs.find.Statement.{statement}
 use Rattle.lookup.proofs.find.Tie as tie
+use Rattle.names.specs.Names.{booleansNamed, stringsFrom, allNamed}
 
 -- ---- what is known behind the call of `place_of`
 
@@ -17,10 +18,10 @@ are-bytes : (p : tie.After-place-of) → Bytes (now (p .before .before .before .
 are-bytes p j = p .before .before .shared-slice-known .given j .fits
 
 placed : (p : tie.After-place-of) → TablePlace (now (p .before .before .before .args .name)) (p .place-of .result)
-placed p = p .place-of .ensures ∙ ap (searching 0 167) (p .before .pack .ensures)
+placed p = p .place-of .ensures ∙ ap (searching 0 allNamed) (p .before .pack .ensures)
 
 none : (p : tie.After-place-of) → let e = p .before .before .before .args .edition in let k = p .place-of .result in
-    (k < 21 → e .booleans ≤ k) → (21 ≤ k → k < 29 → e .numbers ≤ k - 21) → (29 ≤ k → k < 167 → e .strings ≤ k - 29)
+    (k < booleansNamed → e .booleans ≤ k) → (booleansNamed ≤ k → k < stringsFrom → e .numbers ≤ k - booleansNamed) → (stringsFrom ≤ k → k < allNamed → e .strings ≤ k - stringsFrom)
     → F.Unknown ≡ lookingUp e (now (p .before .before .before .args .name))
 none p = found-none (p .before .before .before .args .edition) _ (are-bytes p) (p .place-of .result) (placed p)
 

@@ -1,5 +1,7 @@
--- `terminfo::open` meets its contract: a walk of its MIR, by hand. `entry_numbers::numbers_in` is called on the slice and the edition, and an entry is made of the slice and the numbers that it gives.
--- A `&[u8]` is Copy, so what it owns is had as often as it is needed: for the callee, for file at exit and inside the result.
+-- `terminfo::open` meets its contract: a walk of its MIR, by hand. `entry_numbers::numbers_in` is called on the slice
+-- and the edition, and an entry is made of the slice and the numbers that it gives.
+-- A `&[u8]` is Copy, so what it owns is had as often as it is needed: for the callee, for file at exit and inside the
+-- result.
 -- Assumes nothing.
 use mathlib.Core.Path.{_≡_, refl, ap, subst}
 use Prim.Native.Nat.{ℕ}

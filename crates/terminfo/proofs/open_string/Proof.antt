@@ -1,5 +1,7 @@
--- `terminfo::open_string` meets its contract: a walk of its MIR, by hand. The entry that `open` returns is held in a local and passed to `string_part`. All that the proof knows of the two is that each meets its contract.
--- In a local of a body MIR erases the lifetime of the entry's type, so the value is shown to have the type at `erased`: what the entry owns does not say the lifetime's name.
+-- `terminfo::open_string` meets its contract: a walk of its MIR, by hand. The entry that `open` returns is held in a
+-- local and passed to `string_part`. All that the proof knows of the two is that each meets its contract.
+-- In a local of a body MIR erases the lifetime of the entry's type, so the value is shown to have the type at
+-- `erased`: what the entry owns does not say the lifetime's name.
 -- Assumes nothing.
 use mathlib.Core.Path.{_≡_, refl, subst}
 use Prim.Native.Nat.{ℕ}
@@ -46,7 +48,7 @@ use Rattle.base.specs.Answer.{Answer}
 use Rattle.entry.specs.declared.Part as File
 use Rattle.entry.specs.State.{State}
 use Rattle.entry.specs.Asking.{askingString}
-use Rattle.terminfo.specs.Entries.{entryOf}
+use Rattle.terminfo.specs.Entries.{openedEntry}
 use Rattle.terminfo.specs.Parts.{StringAs}
 use Rattle.entry_numbers.specs.Entries.{entryString}
 use Rattle.entry_numbers.proofs.EntryLaws.{opened-string}
@@ -104,7 +106,7 @@ module _ {M : Type 1} (𝓤 : URA M) (H : Heap 𝓤) (A : Atoms 𝓤) (W : Given
 
   -- what is said of the entry, of its string and of the result
   abbrev Opened : Entry → Type 0
-  Opened r = r ≡ entryOf s e₀
+  Opened r = r ≡ openedEntry s e₀
 
   abbrev Part : Entry → StringPart → Type 0
   Part r t = StringAs (r .file) (entryString (now (r .file)) (r .numbers) p₀) t

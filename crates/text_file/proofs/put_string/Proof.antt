@@ -9,7 +9,7 @@ use borrow.Author.Needs.{needs}
 use Rattle.base.specs.Overwrite.{putAt}
 use Rattle.base.proofs.OverwriteLaws.{put-nil, length-put}
 use Rattle.put.proofs.TableLaws.{bytes-present, part-none}
-use Rattle.text.specs.Strings.{readAt, bytesOf}
+use Rattle.text.specs.Strings.{readAt, readBytes}
 use Rattle.compile_laws.proofs.WriteLaws.{read-put}
 use Rattle.text_file.proofs.put_string.Statement.{statement}
 use Rattle.text_file.proofs.put_string.Tie as tie
@@ -53,7 +53,7 @@ returns-2 c =
     let s = c .before .before .before .before .before .before .before .pre .1 (c .before .before .before .before .if1 .left) in
     let z = bytes-present (a .kind) (a .size) (c .before .before .before .before .if1 .left) in
     let f = c .before .before .before .before .before .before .before .pre .0 in
-    read-put (now (a .b)) _ (a .at) (a .kind) (a .size) (bytesOf (readAt (now (a .text)) (a .start))) (c .before .before .before .before .if1 .left) (s .counted) (omega arith) (c .before .before .put-read .ensures)
+    read-put (now (a .b)) _ (a .at) (a .kind) (a .size) (readBytes (readAt (now (a .text)) (a .start))) (c .before .before .before .before .if1 .left) (s .counted) (omega arith) (c .before .before .put-read .ensures)
 
 pub put-string-spec : {M : Type 1} → statement M
 put-string-spec =

@@ -1,4 +1,4 @@
--- `text_file::write` meets its contract: each return is the answer of `fitting` in its order.
+-- `text_file::write` meets its contract: each return is the answer of `fittingNamed` in its order.
 -- Assumes nothing.
 use mathlib.Core.Path.{_≡_, refl, sym, ap, _∙_}
 use native.Mathlib.Omega.{arith}

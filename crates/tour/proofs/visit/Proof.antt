@@ -1,4 +1,8 @@
--- `tour::visit` meets its contract, that it is safe and ends: a walk of its MIR, by hand. The entry that `open` returns is held in a local, and copies of it are passed to `names_part`, `number` and `string_part`; the variables that `zero_lasting` gives stand in a local, which is lent by `&mut` to `expand` for a lifetime that is made for the call, and comes back (`Lend.antt` of `terminfo`). All that the proof knows of the functions called is that each meets its contract.
+-- `tour::visit` meets its contract, that it is safe and ends: a walk of its MIR, by hand. The entry that `open`
+-- returns is held in a local, and copies of it are passed to `names_part`, `number` and `string_part`; what the first
+-- and the last give is held in locals too, whose fields are passed on; the variables that `zero_lasting` gives stand
+-- in a local, which is lent by `&mut` to `expand` for a lifetime that is made for the call, and comes back
+-- (`Lend.antt` of `terminfo`). All that the proof knows of the functions called is that each meets its contract.
 -- Assumes nothing.
 use mathlib.Core.Path.{_≡_, refl, ap, subst}
 use Prim.Native.Nat.{ℕ}
@@ -51,7 +55,6 @@ use Rattle.edition.proofs.Edition.Laws as E′
 use Rattle.edition.proofs.Place as P
 use Rattle.edition.proofs.Place.Laws as P′
 use Rattle.entry.specs.declared.NumberState.{NumberState}
-use Rattle.entry.specs.declared.StringState.{StringState}
 use Rattle.entry.proofs.NumberState as S
 use Rattle.entry.proofs.NumberState.Laws as S′
 use Rattle.entry.proofs.StringState as Z
