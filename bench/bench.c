@@ -2,7 +2,7 @@
  *
  *     bench COLUMN ROW COUNT FILE.. [ARGUMENT..]
  *
- * COLUMN is ours, ncurses or unibilium; ROW is expand, open, compile, merge (merge512 in an edition
+ * COLUMN is ours, ncurses or unibilium; ROW is expand, open, list, compile, merge (merge512 in an edition
  * of 512 strings) or write. COUNT is how often the row is run; with COUNT 0 the program prints
  * nanoseconds of processor time per run, the least of several tries. Buffers and variables are not
  * cleared between runs.
@@ -73,6 +73,16 @@ static void open_ours(void) {
     kept = terminfo_kind(answers[0]) + terminfo_value(answers[1]) + terminfo_start(answers[2]);
 }
 
+static void list_ours(void) {
+    static uint8_t booleans[BOOLEANS], numbers[NUMBERS], present[STRINGS];
+    static uint32_t values[NUMBERS];
+    static size_t starts[STRINGS], sizes[STRINGS];
+    if (terminfo_list(files[0], lengths[0], BOOLEANS, NUMBERS, STRINGS, booleans, BOOLEANS, numbers,
+                      NUMBERS, values, NUMBERS, present, STRINGS, starts, STRINGS, sizes, STRINGS))
+        fail("the entry is refused");
+    kept = booleans[AM_PLACE] + values[COLS_PLACE] + starts[CUP_PLACE];
+}
+
 static void compile_ours(void) {
     kept = terminfo_compile(files[0], lengths[0], output, sizeof output);
 }
@@ -118,6 +128,22 @@ static void open_ncurses(void) {
 }
 #endif
 
+#ifdef WITH_NCURSES
+/* The peers' states, stored like ours: by kind, and strings by where they start. */
+static void list_ncurses(void) {
+    static char booleans[BOOLEANS];
+    static int numbers[NUMBERS];
+    static char *present[STRINGS];
+    TERMTYPE2 entry;
+    if (_nc_read_termtype(&entry, (char *)files[0], (int)lengths[0]) != 1) fail("not read");
+    for (int i = 0; i < BOOLEANS; i++) booleans[i] = entry.Booleans[i];
+    for (int i = 0; i < NUMBERS; i++) numbers[i] = entry.Numbers[i];
+    for (int i = 0; i < STRINGS; i++) present[i] = entry.Strings[i];
+    kept = (uint64_t)(booleans[AM_PLACE] + numbers[COLS_PLACE]) + (uintptr_t)present[CUP_PLACE];
+    _nc_free_termtype2(&entry);
+}
+#endif
+
 #ifdef WITH_UNIBILIUM
 static unibi_var_t variables[9];
 
@@ -135,6 +161,22 @@ static void open_unibilium(void) {
     kept = (uint64_t)(unibi_get_bool(entry, unibi_auto_right_margin)
                       + unibi_get_num(entry, unibi_columns))
            + (uintptr_t)unibi_get_str(entry, unibi_cursor_address);
+    unibi_destroy(entry);
+}
+
+static void list_unibilium(void) {
+    static char booleans[BOOLEANS];
+    static int numbers[NUMBERS];
+    static const char *present[STRINGS];
+    unibi_term *entry = unibi_from_mem((const char *)files[0], lengths[0]);
+    if (!entry) fail("not read");
+    for (int i = 0; i < BOOLEANS; i++)
+        booleans[i] = (char)unibi_get_bool(entry, (enum unibi_boolean)(unibi_boolean_begin_ + 1 + i));
+    for (int i = 0; i < NUMBERS; i++)
+        numbers[i] = unibi_get_num(entry, (enum unibi_numeric)(unibi_numeric_begin_ + 1 + i));
+    for (int i = 0; i < STRINGS; i++)
+        present[i] = unibi_get_str(entry, (enum unibi_string)(unibi_string_begin_ + 1 + i));
+    kept = (uint64_t)(booleans[AM_PLACE] + numbers[COLS_PLACE]) + (uintptr_t)present[CUP_PLACE];
     unibi_destroy(entry);
 }
 #endif
@@ -179,6 +221,7 @@ typedef struct {
 static const Row rows[] = {
     {"ours", "expand", expand_ours},
     {"ours", "open", open_ours},
+    {"ours", "list", list_ours},
     {"ours", "compile", compile_ours},
     {"ours", "merge", merge_ours},
     {"ours", "merge512", merge_512_strings},
@@ -186,10 +229,12 @@ static const Row rows[] = {
 #ifdef WITH_NCURSES
     {"ncurses", "expand", expand_ncurses},
     {"ncurses", "open", open_ncurses},
+    {"ncurses", "list", list_ncurses},
 #endif
 #ifdef WITH_UNIBILIUM
     {"unibilium", "expand", expand_unibilium},
     {"unibilium", "open", open_unibilium},
+    {"unibilium", "list", list_unibilium},
 #endif
 };
 

@@ -3,22 +3,20 @@
 #include <string.h>
 #include "terminfo_c.h"
 
-enum { BOOLEANS = 21, NUMBERS = 8, STRINGS = 138 };
+enum { BOOLEANS = TERMINFO_FIRST_BOOLEANS, NUMBERS = TERMINFO_FIRST_NUMBERS, STRINGS = TERMINFO_FIRST_STRINGS };
 
-/* Prints one capability's state, as an edition that knows so many strings reads it. */
-static void show(const uint8_t *file, size_t length, size_t strings, const char *name, int kind, size_t place) {
-    static const char *const kinds[] = {"absent", "present", "cancelled"};
-    uint64_t answer = kind == TERMINFO_BOOLEAN  ? terminfo_boolean(file, length, BOOLEANS, NUMBERS, strings, place)
-                      : kind == TERMINFO_NUMBER ? terminfo_number(file, length, BOOLEANS, NUMBERS, strings, place)
-                                                : terminfo_string(file, length, BOOLEANS, NUMBERS, strings, place);
-    if (terminfo_refusal(answer) != 0) {
-        printf("  %-6s refused %u\n", name, terminfo_refusal(answer));
-        return;
-    }
+/* Prints the state of a capability that is asked for by its name, as an edition that knows so many strings reads it. */
+static void show(const uint8_t *file, size_t length, size_t strings, const char *name) {
+    static const char *const kinds[] = {"absent", "present", "cancelled", "refused"};
+    const uint8_t *bytes = (const uint8_t *)name;
+    uint64_t found = terminfo_find(bytes, strlen(name), BOOLEANS, NUMBERS, strings);
+    uint64_t answer = terminfo_state(file, length, BOOLEANS, NUMBERS, strings, bytes, strlen(name));
     printf("  %-6s %s", name, kinds[terminfo_kind(answer)]);
-    if (terminfo_kind(answer) == TERMINFO_PRESENT && kind == TERMINFO_NUMBER)
+    if (terminfo_kind(answer) == TERMINFO_REFUSED)
+        printf(" %u", terminfo_refusal(answer));
+    if (terminfo_kind(answer) == TERMINFO_PRESENT && terminfo_kind(found) == TERMINFO_NUMBER)
         printf(" %u", (unsigned)terminfo_value(answer));
-    if (terminfo_kind(answer) == TERMINFO_PRESENT && kind == TERMINFO_STRING)
+    if (terminfo_kind(answer) == TERMINFO_PRESENT && terminfo_kind(found) == TERMINFO_STRING)
         for (size_t i = 0; i < terminfo_length(answer); i++) {
             uint8_t byte = file[terminfo_start(answer) + i];
             printf(byte == 27 ? "%s\\E" : byte < 33 || byte > 126 ? "%s\\%03o" : "%s%c", i == 0 ? " " : "", byte);
@@ -32,12 +30,12 @@ int main(void) {
     uint8_t boolean_kinds[BOOLEANS] = {0}, number_kinds[NUMBERS] = {0}, string_kinds[STRINGS] = {0};
     uint32_t number_values[NUMBERS] = {0};
     size_t starts[STRINGS] = {0}, lengths[STRINGS] = {0};
-    boolean_kinds[1] = TERMINFO_PRESENT;                        /* am */
-    number_kinds[0] = TERMINFO_PRESENT, number_values[0] = 80;  /* cols */
-    number_kinds[2] = TERMINFO_PRESENT, number_values[2] = 24;  /* lines */
-    string_kinds[5] = TERMINFO_PRESENT, lengths[5] = 6;         /* clear */
-    string_kinds[10] = TERMINFO_PRESENT, starts[10] = 6, lengths[10] = 16; /* cup */
-    string_kinds[130] = TERMINFO_CANCELLED;                     /* ri */
+    boolean_kinds[TERMINFO_AM] = TERMINFO_PRESENT;
+    number_kinds[TERMINFO_COLS] = TERMINFO_PRESENT, number_values[TERMINFO_COLS] = 80;
+    number_kinds[TERMINFO_LINES] = TERMINFO_PRESENT, number_values[TERMINFO_LINES] = 24;
+    string_kinds[TERMINFO_CLEAR] = TERMINFO_PRESENT, lengths[TERMINFO_CLEAR] = 6;
+    string_kinds[TERMINFO_CUP] = TERMINFO_PRESENT, starts[TERMINFO_CUP] = 6, lengths[TERMINFO_CUP] = 16;
+    string_kinds[TERMINFO_RI] = TERMINFO_CANCELLED;
 
     uint8_t file[4096];
     uint64_t written = terminfo_write(BOOLEANS, NUMBERS, STRINGS, (const uint8_t *)names, strlen(names), boolean_kinds, BOOLEANS,
@@ -53,13 +51,13 @@ int main(void) {
         uint64_t tables[10];
         terminfo_open(file, length, BOOLEANS, NUMBERS, strings, tables);
         printf("an edition of %zu strings, %u slots beyond it:\n", strings, (unsigned)tables[9]);
-        show(file, length, strings, "am", TERMINFO_BOOLEAN, 1);
-        show(file, length, strings, "bw", TERMINFO_BOOLEAN, 0);
-        show(file, length, strings, "cols", TERMINFO_NUMBER, 0);
-        show(file, length, strings, "lines", TERMINFO_NUMBER, 2);
-        show(file, length, strings, "clear", TERMINFO_STRING, 5);
-        show(file, length, strings, "cup", TERMINFO_STRING, 10);
-        show(file, length, strings, "ri", TERMINFO_STRING, 130);
+        show(file, length, strings, "am");
+        show(file, length, strings, "bw");
+        show(file, length, strings, "cols");
+        show(file, length, strings, "lines");
+        show(file, length, strings, "clear");
+        show(file, length, strings, "cup");
+        show(file, length, strings, "ri");
     }
     return 0;
 }

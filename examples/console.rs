@@ -11,10 +11,13 @@ extern "C" {
         lent: *const u8, lent_length: usize, buffer: *mut u8, buffer_length: usize) -> u64;
 }
 
-// An edition that knows the places up to those of am, cols and cup.
-const BOOLEANS: usize = 2;
-const NUMBERS: usize = 1;
-const STRINGS: usize = 11;
+// Places, as in include/terminfo_names.h, and an edition that knows the places up to these.
+const AM: usize = 1;
+const COLS: usize = 0;
+const CUP: usize = 10;
+const BOOLEANS: usize = AM + 1;
+const NUMBERS: usize = COLS + 1;
+const STRINGS: usize = CUP + 1;
 
 #[derive(Clone, Copy)]
 enum Kind { Boolean, Number, String }
@@ -32,7 +35,7 @@ impl<'a> Entry<'a> {
         let call = [terminfo_boolean, terminfo_number, terminfo_string][kind as usize];
         let answer = unsafe { call(self.0.as_ptr(), self.0.len(), BOOLEANS, NUMBERS, STRINGS, place) };
         let (start, length) = ((answer >> 24 & 0xFF_FFFF) as usize, (answer & 0xFF_FFFF) as usize);
-        match (answer >> 48, kind) {
+        match (answer >> 48 & 0xFF, kind) {
             (0, _) => Ok("absent".into()),
             (1, Kind::Boolean) => Ok("present".into()),
             (1, Kind::Number) => Ok(format!("present {}", answer & 0xFFFF)),
@@ -52,7 +55,7 @@ fn main() -> Result<(), u64> {
         lengths.as_ptr(), STRINGS, cup.as_ptr(), cup.len(), file.as_mut_ptr(), file.len()) };
     if written >> 56 != 0 { return Err(written >> 56); }
     let entry = Entry::open(&file[..written as usize])?;
-    for (name, kind, place) in [("am", Kind::Boolean, 1), ("cols", Kind::Number, 0), ("cup", Kind::String, 10)] {
+    for (name, kind, place) in [("am", Kind::Boolean, AM), ("cols", Kind::Number, COLS), ("cup", Kind::String, CUP)] {
         println!("{name} {}", entry.state(kind, place)?);
     }
     Ok(())

@@ -3,10 +3,13 @@
  *
  * An edition is three counts, of booleans (at most 64), numbers (at most 64) and strings (at most
  * 512); it knows the places below its counts in the three ordered lists of capabilities. The first
- * edition is 21, 8, 138.
+ * edition is 21, 8, 138 (TERMINFO_FIRST_EDITION), and terminfo_names.h has a constant for each of
+ * its places: TERMINFO_COLS is the place of cols in the list of numbers.
  *
  * Every call returns 64 bits. Bits 56 to 63 hold the number of the refusal, 0 for success; the
- * bits below hold what the call or the refusal gives, and are 0 where it gives nothing.
+ * bits below hold what the call or the refusal gives, and are 0 where it gives nothing. Calls that
+ * give a kind in bits 48 to 55 have TERMINFO_REFUSED there where they are refused, so that a refused
+ * state is not taken for an absent one.
  *
  *     1   the file is shorter than 12 bytes, longer than 4,096 or not as long as its header says,
  *         the text is longer than 16,384 bytes, or the string to be expanded longer than 1,000
@@ -20,20 +23,21 @@
  *     7   a string slot is no offset of a string in the table and neither 65,535 nor 65,534, or a
  *         string given to the writer is not in the bytes that were lent
  *     8   the buffer is shorter than the file to be written, or has too little room for the output
- *         of an expansion; bits 0 to 55 give the length of the file or output
+ *         of an expansion; bits 0 to 47 give the length of the file or output; or an array is too
+ *         short for the edition's states, and bits 0 to 47 give their count
  *     9   the file to be written is longer than 4,096 bytes
- *     10  the text is malformed; for 10 to 13 bits 0 to 55 give the first byte of the field, 0 for
+ *     10  the text is malformed; for 10 to 13 bits 0 to 47 give the first byte of the field, 0 for
  *         the header, and its own for a second line that starts in column 1
- *     11  a field's name is unknown, or of another kind
+ *     11  a field's name is unknown, or of another kind; or the edition does not know the name
  *     12  a field is use=
  *     13  an alias of the text is longer than 14 bytes, a number above 32,767 or of more than 99
  *         digits, a string longer than 1,000 bytes, or all names together longer than 127; or the
  *         writer is given a state of no kind, a number above 32,767, or a string that is longer
- *         than 1,000 bytes or holds a NUL, and then bits 0 to 55 are 0
- *     14  the string to be expanded is malformed; bits 0 to 55 give the place of the first wrong
+ *         than 1,000 bytes or holds a NUL, and then bits 0 to 47 are 0
+ *     14  the string to be expanded is malformed; bits 0 to 47 give the place of the first wrong
  *         item, or the string's length where a conditional is not closed
- *     15  an item finds too few values on the stack; bits 0 to 55 give the item's place
- *     16  an item finds no room on the stack of 20 values; bits 0 to 55 give the item's place
+ *     15  an item finds too few values on the stack; bits 0 to 47 give the item's place
+ *     16  an item finds no room on the stack of 20 values; bits 0 to 47 give the item's place
  *     17  the place is beyond the edition, the list or the buffer's length, there is no such kind
  *         of capability, or opening refuses the file
  *
@@ -54,6 +58,8 @@
 #include <stddef.h>
 #include <stdint.h>
 
+#include "terminfo_names.h"
+
 #ifdef __cplusplus
 extern "C" {
 #endif
@@ -61,26 +67,50 @@ extern "C" {
 /* The kinds of capability. */
 enum { TERMINFO_BOOLEAN = 0, TERMINFO_NUMBER = 1, TERMINFO_STRING = 2 };
 
-/* The kinds of state that a capability has in an entry. */
-enum { TERMINFO_ABSENT = 0, TERMINFO_PRESENT = 1, TERMINFO_CANCELLED = 2 };
+/* The kinds of state that a capability has in an entry; and the kind of a refused answer. */
+enum { TERMINFO_ABSENT = 0, TERMINFO_PRESENT = 1, TERMINFO_CANCELLED = 2, TERMINFO_REFUSED = 3 };
+
+/* The numbers of refusal. */
+enum {
+    TERMINFO_REFUSED_LENGTH = 1,
+    TERMINFO_REFUSED_MAGIC = 2,
+    TERMINFO_REFUSED_COUNTS = 3,
+    TERMINFO_REFUSED_NAMES = 4,
+    TERMINFO_REFUSED_BOOLEAN = 5,
+    TERMINFO_REFUSED_NUMBER = 6,
+    TERMINFO_REFUSED_STRING = 7,
+    TERMINFO_REFUSED_ROOM = 8,
+    TERMINFO_REFUSED_SIZE = 9,
+    TERMINFO_REFUSED_MALFORMED_TEXT = 10,
+    TERMINFO_REFUSED_UNKNOWN = 11,
+    TERMINFO_REFUSED_USE = 12,
+    TERMINFO_REFUSED_LIMIT = 13,
+    TERMINFO_REFUSED_MALFORMED_STRING = 14,
+    TERMINFO_REFUSED_STACK_EMPTY = 15,
+    TERMINFO_REFUSED_STACK_FULL = 16,
+    TERMINFO_REFUSED_PLACE = 17
+};
 
 /* The number of the refusal in an answer; 0 for success. */
 static inline unsigned terminfo_refusal(uint64_t answer) { return (unsigned)(answer >> 56); }
 
-/* The kind of state in the answer of terminfo_boolean, terminfo_number or terminfo_string. */
+/* The kind of state in the answer of terminfo_boolean, terminfo_number, terminfo_string or
+ * terminfo_state or in one that terminfo_ask stores; or the kind of capability in the answer of
+ * terminfo_find. TERMINFO_REFUSED where the answer is a refusal. */
 static inline unsigned terminfo_kind(uint64_t answer) { return (unsigned)(answer >> 48) & 255u; }
 
-/* The number's value in the answer of terminfo_number, the file's length in that of
- * terminfo_write, terminfo_merge or terminfo_compile (success, or refusal 8), the field's first
- * byte in that of terminfo_compile (refusals 10 to 13), or what a refusal of terminfo_expand gives:
- * the output's length (8) or an item's place (14, 15, 16). */
+/* Bits 0 to 47: the number's value in the answer of terminfo_number or terminfo_state, the place in
+ * that of terminfo_find, the file's length in that of terminfo_write, terminfo_merge or
+ * terminfo_compile (success, or refusal 8), the count in that of terminfo_list (refusal 8), the
+ * field's first byte in that of terminfo_compile (refusals 10 to 13), or what a refusal of
+ * terminfo_expand gives: the output's length (8) or an item's place (14, 15, 16). */
 static inline uint64_t terminfo_value(uint64_t answer) { return answer & 0xFFFFFFFFFFFFu; }
 
-/* Where the part of the file starts that terminfo_names or terminfo_string gives. */
+/* Where the part of the file starts that terminfo_names, terminfo_string or terminfo_state gives. */
 static inline size_t terminfo_start(uint64_t answer) { return (size_t)(answer >> 24) & 0xFFFFFFu; }
 
-/* How many bytes the part of the file has that terminfo_names or terminfo_string gives, or the
- * output of terminfo_expand. */
+/* How many bytes the part of the file has that terminfo_names, terminfo_string or terminfo_state
+ * gives, or the output of terminfo_expand. */
 static inline size_t terminfo_length(uint64_t answer) { return (size_t)answer & 0xFFFFFFu; }
 
 /* How many items terminfo_expand took. */
@@ -122,8 +152,8 @@ uint64_t terminfo_names(const uint8_t *file, size_t file_length, size_t booleans
  * place                       the place in the list of booleans, counted from 0.
  *
  * Success gives the kind of the state in bits 48 to 55 (terminfo_kind); a place that the edition
- * knows and the file does not have is absent. Refusal 17: the place is beyond the edition, or
- * terminfo_open refuses the file.
+ * knows and the file does not have is absent. Refusal 17, with TERMINFO_REFUSED in bits 48 to 55:
+ * the place is beyond the edition, or terminfo_open refuses the file.
  *
  * Uses at most 176 bytes of stack. */
 uint64_t terminfo_boolean(const uint8_t *file, size_t file_length, size_t booleans, size_t numbers,
@@ -161,7 +191,7 @@ uint64_t terminfo_string(const uint8_t *file, size_t file_length, size_t boolean
  * places                      the place of each capability in the list of its kind.
  * answers                     on success, answers[i] is what terminfo_boolean, terminfo_number or
  *                             terminfo_string returns for places[i], its refusal 17 included; for
- *                             any other kinds[i] it is refusal 17.
+ *                             any other kinds[i] it is that refusal.
  *
  * Success gives 0. Refusal 17: terminfo_open refuses the file.
  *
@@ -169,6 +199,35 @@ uint64_t terminfo_string(const uint8_t *file, size_t file_length, size_t boolean
 uint64_t terminfo_ask(const uint8_t *file, size_t file_length, size_t booleans, size_t numbers,
                       size_t strings, const uint8_t kinds[8], const size_t places[8],
                       uint64_t answers[8]);
+
+/* Gives the state of every capability that the edition knows and opens the file only once. The
+ * arrays hold after it what terminfo_write takes, with the file as the lent bytes.
+ *
+ * file, file_length           the bytes of the file.
+ * booleans, numbers, strings  the edition of the reader.
+ * boolean_kinds               takes the kind of state of each boolean: 0 absent, 1 present, 2
+ *                             cancelled.
+ * number_kinds                takes the kind of state of each number.
+ * number_values               takes the value of each number, 0 where it is not present.
+ * string_kinds                takes the kind of state of each string.
+ * string_starts               takes where in the file each string starts, 0 where it is not present.
+ * string_lengths              takes how many bytes each string has, 0 where it is not present.
+ *
+ * Each array may be longer than the edition counts; what lies beyond stays.
+ *
+ * Success gives 0. Refusals, the first that applies: 3 (edition), 1 to 7 as terminfo_open gives them,
+ * 8 (an array is shorter than the edition counts, the booleans' first, then one of the numbers', then
+ * one of the strings'; gives the count: terminfo_value).
+ *
+ * Uses at most 304 bytes of stack. */
+uint64_t terminfo_list(const uint8_t *file, size_t file_length, size_t booleans, size_t numbers,
+                       size_t strings,
+                       uint8_t *boolean_kinds, size_t boolean_kinds_length,
+                       uint8_t *number_kinds, size_t number_kinds_length,
+                       uint32_t *number_values, size_t number_values_length,
+                       uint8_t *string_kinds, size_t string_kinds_length,
+                       size_t *string_starts, size_t string_starts_length,
+                       size_t *string_lengths, size_t string_lengths_length);
 
 /* Writes a file that has exactly the edition's slots, from the buffer's first byte on.
  *
@@ -210,16 +269,20 @@ uint64_t terminfo_write(size_t booleans, size_t numbers, size_t strings,
  *
  * Lines end in byte 10, white space is space and tab. Blank lines and lines whose first nonblank is
  * # are skipped before the header and where a field may begin. The header starts in column 1: at
- * least two names parted by |, a comma, then only white space to the line's end. Fields follow,
- * indented on each new line, each with a comma behind it:
+ * least two names parted by |, a comma, then only white space to the line's end. The last name has
+ * 1 or more bytes of codes 32 to 126 other than comma and |; each name before it 1 to 14 of codes 33
+ * to 126 other than comma, slash and |. Fields follow, indented on each new line, each with a comma
+ * behind it; the name of a field has 1 or more bytes of codes 33 to 126 other than , = # @:
  *
  *     am,                       a boolean;
- *     cols#80,                  a number: decimal, octal with a leading 0, or hex with 0x or 0X;
+ *     cols#80,                  a number: decimal, octal with a leading 0, or hex with 0x or 0X, of
+ *                               at most 99 digits;
  *     bel=^G,                   a string: codes 32 to 126, and \E \e 27, \n \l 10, \r 13, \t 9,
  *                               \b 8, \f 12, \s 32, \^ \\ \, \: themselves, \ and one to three octal
- *                               digits, ^ and a letter or one of @[\]^_ the code mod 32, ^? 127. A
- *                               result of 0 is stored as 128. A line end and the white space
- *                               after it, of which there must be some, are left out;
+ *                               digits, ^ and a letter or one of @[\]^_ the code mod 32, ^? 127. Any
+ *                               other \ or ^ is malformed, \400 to \777 too. A result of 0 is
+ *                               stored as 128. A line end and the white space after it, of which
+ *                               there must be some, are left out;
  *     bel@,                     a cancelled capability of any kind;
  *     .bel=^G,                  a field that is dropped: its form must be right, its name and its
  *                               limits are not judged.
@@ -231,7 +294,7 @@ uint64_t terminfo_write(size_t booleans, size_t numbers, size_t strings,
  * for the header (terminfo_value); 13 for all names together, with 0; 9; 8 (gives the file's
  * length: terminfo_value).
  *
- * Uses at most 9,504 bytes of stack. */
+ * Uses at most 9,520 bytes of stack. */
 uint64_t terminfo_compile(const uint8_t *text, size_t text_length, uint8_t *buffer,
                           size_t buffer_length);
 
@@ -282,8 +345,9 @@ uint64_t terminfo_capability(uint8_t kind, size_t place);
  * The items are bytes other than NUL and percent sign, which stand for themselves, and
  *     %%                        a percent sign;
  *     %p1 to %p9                pushes an argument;
- *     %d %o %x %X               pops a value and prints it, with a width of 1 to 99, and a 0 before
- *                               the width to fill with zeros: %3d, %02x;
+ *     %d %o %x %X               pops a value and prints it, octal and hex mod 2^32, with a width of
+ *                               1 to 99, and a 0 before the width to fill with zeros, which stand
+ *                               after the sign: %3d, %02x;
  *     %c                        pops a value and prints it mod 256 as one byte;
  *     %'b' %{digits}            pushes a byte other than NUL, or a number of at most 2,147,483,647;
  *     %Pa %ga, %PA %gA          pops into a variable, pushes a variable;
@@ -306,6 +370,33 @@ uint64_t terminfo_capability(uint8_t kind, size_t place);
  * Uses at most 1,184 bytes of stack. */
 uint64_t terminfo_expand(const uint8_t *string, size_t string_length, const int32_t arguments[9],
                          int32_t lasting[26], uint8_t *buffer, size_t buffer_length, size_t at);
+
+/* Finds the capability that a name means in an edition.
+ *
+ * name, name_length           the bytes of the name, such as cols.
+ * booleans, numbers, strings  the edition.
+ *
+ * Success gives the kind of capability in bits 48 to 55 (terminfo_kind) and its place in the list of
+ * that kind in the bits below (terminfo_value). Refusal 11, with TERMINFO_REFUSED in bits 48 to 55:
+ * the edition does not know the name.
+ *
+ * Uses at most 72 bytes of stack. */
+uint64_t terminfo_find(const uint8_t *name, size_t name_length, size_t booleans, size_t numbers,
+                       size_t strings);
+
+/* Asks for the state of the capability that a name means.
+ *
+ * file, file_length           the bytes of the file.
+ * booleans, numbers, strings  the edition of the reader.
+ * name, name_length           the bytes of the name, such as cols.
+ *
+ * Success gives what terminfo_boolean, terminfo_number or terminfo_string gives at the capability's
+ * place; terminfo_find tells which of them. Refusals, the first that applies, with TERMINFO_REFUSED
+ * in bits 48 to 55: 11 (the edition does not know the name), 17 (terminfo_open refuses the file).
+ *
+ * Uses at most 256 bytes of stack. */
+uint64_t terminfo_state(const uint8_t *file, size_t file_length, size_t booleans, size_t numbers,
+                        size_t strings, const uint8_t *name, size_t name_length);
 
 #ifdef __cplusplus
 }

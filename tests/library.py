@@ -24,11 +24,14 @@ REFUSALS = {
     "boolean": (0, 17),
     "number": (0, 17),
     "string": (0, 17),
+    "state": (0, 11, 17),
     "ask": (0, 17),
     "answers of ask": (0, 17),
+    "list": (0, 1, 2, 3, 4, 5, 6, 7, 8),
     "write": (0, 3, 4, 7, 8, 9, 13),
     "merge": (0, 1, 2, 3, 4, 5, 6, 7, 8, 9),
     "capability": (0, 17),
+    "find": (0, 11),
 }
 
 SIZE, POINTER = ctypes.c_size_t, ctypes.c_void_p
@@ -40,10 +43,13 @@ ARGUMENTS = {
     "number": FILE_AND_EDITION + [SIZE],
     "string": FILE_AND_EDITION + [SIZE],
     "ask": FILE_AND_EDITION + [POINTER, POINTER, POINTER],
+    "list": FILE_AND_EDITION + 6 * [POINTER, SIZE],
     "write": [SIZE, SIZE, SIZE] + 9 * [POINTER, SIZE],
     "merge": [POINTER, SIZE] + FILE_AND_EDITION + [POINTER, SIZE],
     "capability": [ctypes.c_uint8, SIZE],
     "compile": [POINTER, SIZE, POINTER, SIZE],
+    "find": [POINTER, SIZE, SIZE, SIZE, SIZE],
+    "state": FILE_AND_EDITION + [POINTER, SIZE],
 }
 
 
@@ -129,6 +135,8 @@ def pack_part(part):
 
 
 NOT_THERE = pack(17)
+# The kind in a refused answer about a state or a name.
+REFUSED = 3
 
 
 def pack_state(state):
@@ -163,6 +171,8 @@ class Reader:
     kinds = Lent("B", 8)
     places = Lent("Q", 8)
     answers = Lent("Q", 8)
+    # The arrays that list fills, in the order of the C interface.
+    arrays = [Lent(code, 1 << 10) for code in ("B", "B", "I", "B", "Q", "Q")]
 
     def __init__(self, file, edition):
         self.file.put(file)
@@ -201,11 +211,23 @@ class Reader:
 
     def model_state(self, kind, place):
         if self.entry is None:
-            return NOT_THERE
+            return pack(17, kind=REFUSED)
         try:
             return pack_state(model.state(self.entry, kind, place))
         except model.Refusal as refusal:
-            return pack(refusal.number, refusal.value)
+            return pack(refusal.number, refusal.value, REFUSED)
+
+    def named_state(self, name):
+        NAME.put(name)
+        answer = CALLS["state"](*self.lent, NAME.address, NAME.length)
+        require(NAME.kept(), "the name asked for")
+        return answer
+
+    def model_named_state(self, name, edition):
+        found = model_find(name, edition)
+        if found >> 56:
+            return found
+        return self.model_state(found >> 48, found & 0xFFFF)
 
     def ask(self, kinds, places):
         """Answer and eight answers (None if refused)."""
@@ -225,6 +247,30 @@ class Reader:
         if self.entry is None:
             return NOT_THERE, None
         return 0, [self.model_state(kind, place) for kind, place in zip(kinds, places)]
+
+    def list(self, rooms):
+        """Answer and the arrays of these lengths after it, all of their elements."""
+        arguments = []
+        for lent, room in zip(self.arrays, rooms):
+            lent.put_pattern(room)
+            arguments += (lent.address, room)
+        answer = CALLS["list"](*self.lent, *arguments)
+        for lent, room in zip(self.arrays, rooms):
+            require(lent.kept_after(room), "bytes around an array of states")
+        return answer, [list(lent.written()) for lent in self.arrays]
+
+    def model_list(self, rooms):
+        before = []
+        for lent, room in zip(self.arrays, rooms):
+            lent.put_pattern(room)
+            before.append(list(lent.written()))
+        if self.entry is None:
+            return self.refusal, before
+        try:
+            states = model.list_states(self.entry, rooms)
+        except model.Refusal as refusal:
+            return pack(refusal.number, refusal.value), before
+        return 0, [part + array[len(part):] for part, array in zip(states, before)]
 
 
 def contents(file, edition):
@@ -335,3 +381,22 @@ def model_capability(kind, place):
         return NOT_THERE
     name, = struct.unpack("<Q", model.LISTS[kind][place].encode().ljust(8, b"\0"))
     return name
+
+
+NAME = Lent()
+
+
+def find(name, edition):
+    """The library's answer for a name."""
+    NAME.put(name)
+    answer = CALLS["find"](NAME.address, NAME.length, *edition)
+    require(NAME.kept(), "the name to find")
+    return answer
+
+
+def model_find(name, edition):
+    for kind, (listed, known) in enumerate(zip(model.LISTS, edition)):
+        for place, capability_name in enumerate(listed[:known]):
+            if capability_name.encode() == name:
+                return pack(kind=kind, value=place)
+    return pack(11, kind=REFUSED)

@@ -139,6 +139,23 @@ def state(entry, kind, place):
     return PRESENT, (start, entry.file.index(0, start) - start)
 
 
+def list_states(entry, rooms):
+    """Every state of the edition, in the form that the writer takes, for arrays of these lengths.
+
+    Boolean kinds; number kinds and values; string kinds, starts and lengths.
+    """
+    for kind, shortest in enumerate((rooms[0], min(rooms[1:3]), min(rooms[3:6]))):
+        if shortest < entry.edition[kind]:
+            raise Refusal(8, entry.edition[kind])
+    booleans, numbers, strings = ([state(entry, kind, place) for place in range(count)]
+                                  for kind, count in enumerate(entry.edition))
+    parts = [part or (0, 0) for _, part in strings]
+    return [[kind for kind, _ in booleans],
+            [kind for kind, _ in numbers], [value or 0 for _, value in numbers],
+            [kind for kind, _ in strings],
+            [start for start, _ in parts], [length for _, length in parts]]
+
+
 class States(NamedTuple):
     """What is handed to the writer besides edition and room: kinds of state and their values."""
 

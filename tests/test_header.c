@@ -39,7 +39,42 @@ static void example(void) {
     assert(terminfo_ask(file, 32, 2, 2, 2, kinds, places, answers) == 0);
     assert(terminfo_kind(answers[0]) == TERMINFO_ABSENT);
     assert(terminfo_kind(answers[3]) == TERMINFO_CANCELLED && answers[5] == answer);
-    assert(terminfo_refusal(answers[6]) == 17 && terminfo_refusal(answers[7]) == 17);
+    assert(terminfo_refusal(answers[6]) == TERMINFO_REFUSED_PLACE);
+    assert(terminfo_kind(answers[6]) == TERMINFO_REFUSED && answers[7] == answers[6]);
+}
+
+/* Lists every state of an entry, writes what is listed, and gets the entry again. */
+static void listing(void) {
+    const char *text = "l|listed,\n\tam, cols#80, it@, bel=^G, cr@,\n";
+    uint8_t file[400], again[400], booleans[22], numbers[8], strings[138];
+    uint32_t values[8];
+    size_t starts[138], lengths[138], length;
+    uint64_t answer;
+
+    length = (size_t)terminfo_compile((const uint8_t *)text, strlen(text), file, sizeof file);
+    assert(length < sizeof file);
+    memset(booleans, 9, sizeof booleans);
+    answer = terminfo_list(file, length, 21, 8, 138, booleans, 22, numbers, 8, values, 8, strings,
+                           138, starts, 138, lengths, 138);
+    assert(answer == 0 && booleans[0] == TERMINFO_ABSENT && booleans[1] == TERMINFO_PRESENT);
+    assert(booleans[20] == TERMINFO_ABSENT && booleans[21] == 9);
+    assert(numbers[0] == TERMINFO_PRESENT && values[0] == 80);
+    assert(numbers[1] == TERMINFO_CANCELLED && values[1] == 0 && numbers[7] == TERMINFO_ABSENT);
+    assert(strings[0] == TERMINFO_ABSENT && starts[0] == 0 && lengths[0] == 0);
+    assert(strings[1] == TERMINFO_PRESENT && lengths[1] == 1 && file[starts[1]] == 7);
+    assert(strings[2] == TERMINFO_CANCELLED && lengths[2] == 0);
+    answer = terminfo_write(21, 8, 138, (const uint8_t *)"l|listed", 8, booleans, 21, numbers, 8,
+                            values, 8, strings, 138, starts, 138, lengths, 138, file, length, again,
+                            sizeof again);
+    assert(answer == length && !memcmp(again, file, length));
+
+    booleans[0] = 9;
+    answer = terminfo_list(file, length, 21, 8, 138, booleans, 22, numbers, 8, values, 7, strings,
+                           138, starts, 138, lengths, 138);
+    assert(terminfo_refusal(answer) == 8 && terminfo_value(answer) == 8 && booleans[0] == 9);
+    answer = terminfo_list(file, length - 1, 21, 8, 138, booleans, 22, numbers, 8, values, 8, strings,
+                           138, starts, 138, lengths, 138);
+    assert(terminfo_refusal(answer) == 1 && booleans[0] == 9);
 }
 
 /* Writes an entry with one number, one state of it and no other capability; gives its length. */
@@ -114,6 +149,11 @@ static void expanding(void) {
     assert(!memcmp(buffer, "-05[1;1H........", sizeof buffer) && lasting[1] == -5);
 }
 
+/* The state of a capability by its name, in the first edition. */
+static uint64_t named(const uint8_t *file, size_t length, const char *name) {
+    return terminfo_state(file, length, TERMINFO_FIRST_EDITION, (const uint8_t *)name, strlen(name));
+}
+
 /* A text compiled and read back, and a field that is refused with its place. */
 static void compiling(void) {
     const char *text = "a|console a,\n\tam, cols#0x50, bel@, cr=^M,\n";
@@ -130,15 +170,22 @@ static void compiling(void) {
     assert(terminfo_refusal(answer) == 0);
     length = (size_t)terminfo_value(answer);
     assert(length < sizeof buffer && buffer[length] == '.');
-    assert(terminfo_kind(terminfo_boolean(buffer, length, 21, 8, 138, 1)) == TERMINFO_PRESENT);
-    assert(terminfo_value(terminfo_number(buffer, length, 21, 8, 138, 0)) == 80);
-    assert(terminfo_kind(terminfo_string(buffer, length, 21, 8, 138, 1)) == TERMINFO_CANCELLED);
-    answer = terminfo_string(buffer, length, 21, 8, 138, 2);
+    answer = terminfo_boolean(buffer, length, TERMINFO_FIRST_EDITION, TERMINFO_AM);
+    assert(terminfo_kind(answer) == TERMINFO_PRESENT);
+    answer = terminfo_number(buffer, length, TERMINFO_FIRST_EDITION, TERMINFO_COLS);
+    assert(terminfo_kind(answer) == TERMINFO_PRESENT && terminfo_value(answer) == 80);
+    answer = terminfo_string(buffer, length, TERMINFO_FIRST_EDITION, TERMINFO_BEL);
+    assert(terminfo_refusal(answer) == 0 && terminfo_kind(answer) == TERMINFO_CANCELLED);
+    answer = terminfo_string(buffer, length, TERMINFO_FIRST_EDITION, TERMINFO_CR);
     assert(terminfo_length(answer) == 1 && buffer[terminfo_start(answer)] == 13);
+    assert(named(buffer, length, "cr") == answer);
+    assert(terminfo_value(named(buffer, length, "cols")) == 80);
+    assert(terminfo_kind(named(buffer, length, "am")) == TERMINFO_PRESENT);
+    assert(terminfo_kind(named(buffer, length, "bw")) == TERMINFO_ABSENT);
     assert(terminfo_refusal(terminfo_compile((const uint8_t *)text, strlen(text), buffer, 14)) == 8);
 }
 
-/* Refusals, and the name of a capability. */
+/* Refusals, and the name of a capability, both ways. */
 static void refusals(void) {
     const uint8_t file[14] = {26, 1, 2, 0, 0, 0, 0, 0, 0, 0, 0, 0, 'a', 0};
     uint8_t buffer[13];
@@ -148,21 +195,37 @@ static void refusals(void) {
     const size_t no_size[1] = {0};
     char name[8];
 
-    assert(terminfo_open(file, 14, 21, 8, 138, tables) == 0);
-    assert(terminfo_refusal(terminfo_open(file, 13, 21, 8, 138, tables)) == 1);
-    assert(terminfo_refusal(terminfo_number(file, 14, 21, 8, 138, 8)) == 17);
+    assert(terminfo_open(file, 14, TERMINFO_FIRST_EDITION, tables) == 0);
+    answer = terminfo_open(file, 13, TERMINFO_FIRST_EDITION, tables);
+    assert(terminfo_refusal(answer) == TERMINFO_REFUSED_LENGTH);
+    answer = terminfo_number(file, 14, TERMINFO_FIRST_EDITION, TERMINFO_FIRST_NUMBERS);
+    assert(terminfo_refusal(answer) == TERMINFO_REFUSED_PLACE);
+    assert(terminfo_kind(answer) == TERMINFO_REFUSED);
+    answer = named(file, 13, "cols");
+    assert(terminfo_refusal(answer) == TERMINFO_REFUSED_PLACE);
+    assert(terminfo_kind(answer) == TERMINFO_REFUSED);
+    answer = named(file, 13, "colums");
+    assert(terminfo_refusal(answer) == TERMINFO_REFUSED_UNKNOWN);
+    assert(terminfo_kind(answer) == TERMINFO_REFUSED);
     answer = terminfo_write(0, 0, 0, (const uint8_t *)"a", 1, none, 0, none, 0, no_value, 0, none,
                             0, no_size, 0, no_size, 0, none, 0, buffer, sizeof buffer);
     assert(terminfo_refusal(answer) == 8 && terminfo_value(answer) == 14);
 
-    answer = terminfo_capability(TERMINFO_STRING, 67);
+    answer = terminfo_capability(TERMINFO_STRING, TERMINFO_KF10);
     memcpy(name, &answer, sizeof name);
     assert(!strcmp(name, "kf10"));
+    answer = terminfo_find((const uint8_t *)name, 4, TERMINFO_FIRST_EDITION);
+    assert(terminfo_refusal(answer) == 0 && terminfo_kind(answer) == TERMINFO_STRING);
+    assert(terminfo_value(answer) == TERMINFO_KF10);
+    answer = terminfo_find((const uint8_t *)name, 4, 21, 8, TERMINFO_KF10);
+    assert(terminfo_refusal(answer) == TERMINFO_REFUSED_UNKNOWN);
+    assert(terminfo_kind(answer) == TERMINFO_REFUSED);
     assert(terminfo_refusal(terminfo_capability(TERMINFO_NUMBER, 8)) == 17);
 }
 
 int main(void) {
     example();
+    listing();
     merging();
     expanding();
     compiling();

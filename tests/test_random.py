@@ -359,6 +359,17 @@ def pick_place(known, count):
     return pick(*HUGE)
 
 
+def pick_name():
+    """A name to look up: one of the lists, one near it, or any bytes."""
+    name = pick(*pick(*model.LISTS)).encode()
+    form = chance()
+    if form < 0.7:
+        return name
+    if form < 0.85:
+        return pick(name[:-1], name + b"\0", name + b"1", name.upper(), b"\0" + name, name[1:])
+    return bytes(upto(255) for _ in range(upto(9)))
+
+
 def check_file(file, edition, counts):
     """Every call of the reader on one file in one edition."""
     reader = Reader(file, edition)
@@ -371,9 +382,15 @@ def check_file(file, edition, counts):
                          edition, place)
             if not state >> 56:
                 seen[call, STATE_KINDS[state >> 48]] += 1
+    name = pick_name()
+    same("find", library.find(name, edition), library.model_find(name, edition), name, edition)
+    same("state", reader.named_state(name), reader.model_named_state(name, edition), file, edition,
+         name)
     kinds = [pick(0, 1, 2, 2) if chance() < 0.95 else pick(3, 4, 128, 254, 255) for _ in range(8)]
     places = [pick_place(edition[kind], counts[kind]) if kind < 3 else upto(9) for kind in kinds]
     check_ask(reader, file, edition, kinds, places)
+    if chance() < 0.25:
+        check_list(reader, file, edition)
     if not refused and chance() < 0.1:
         check_all(reader, file, edition)
     if not reader.file_kept():
@@ -385,6 +402,22 @@ def check_ask(reader, file, edition, kinds, places):
                       edition, kinds, places)
     for answer in answers or ():
         tally["answers of ask", answer >> 56] += 1
+
+
+def pick_rooms(edition):
+    """The lengths of the arrays of states: the edition's counts, more, or one or two too short."""
+    known = [min(most, edition[kind]) for kind, most in enumerate(model.LARGEST_EDITION)]
+    rooms = [known[kind] + pick(0, 0, 1, upto(20)) for kind in (0, 1, 1, 2, 2, 2)]
+    if chance() < 0.3:
+        for which in rng.sample(range(6), pick(1, 1, 2)):
+            rooms[which] = pick(0, max(0, known[(0, 1, 1, 2, 2, 2)[which]] - 1),
+                                upto(rooms[which]))
+    return rooms
+
+
+def check_list(reader, file, edition):
+    rooms = pick_rooms(edition)
+    same("list", reader.list(rooms), reader.model_list(rooms), file, edition, rooms)
 
 
 def check_all(reader, file, edition):

@@ -26,36 +26,41 @@ from test_vectors import same
 TI = str(Path(__file__).resolve().parent.parent / "ti")
 SEED = 21
 GENERATED = 400
-FILES, MERGES, STRINGS = 300, 200, 300
+FILES, MERGES, STRINGS, SHOWS = 300, 200, 300, 40
 OLD = b"the file that was there before"
-REFUSED = re.compile(r"ti: (.*): refused (\d+): (.*)\n")
-SENTENCES = {
-    1: "wrong length (a file has 12 to 4,096 bytes, as many as its header says; a text at most "
-       "16,384; a string to expand at most 1,000)",
+REFUSED = re.compile(r"ti: (.*?): (.*) \(refusal (\d+)(?:, byte (\d+))?\)\n")
+FIELD = re.compile(r"ti: (.*):(\d+):(\d+): (.*) \(refusal (\d+), byte (\d+)\)\n")
+FILE_SENTENCES = {
+    1: "wrong length: a file has 12 to 4,096 bytes, as many as its header says",
     2: "the first short is not 282, the mark of compiled entries",
-    3: "a size in the header is out of range (names 2 to 128, others at most 32,767)",
+    3: "a size in the header is out of range: names 2 to 128, others at most 32,767",
     4: "the names do not end in their only NUL",
     5: "a boolean is none of 0, 1 and 254, or the pad byte is not 0",
     6: "a number is above 32,767 and neither absent nor cancelled",
     7: "a string's offset is outside the string table, or no NUL stands at or after it",
-    8: "too little room for the output",
+    9: "the merged file would be longer than 4,096 bytes",
+}
+TEXT_SENTENCES = {
+    1: "the text is longer than 16,384 bytes",
     9: "the compiled file would be longer than 4,096 bytes",
-    10: "malformed text",
-    11: "unknown capability, or one of another kind",
-    12: "use= is not covered",
-    13: "past a limit (alias 14 bytes, number 32,767 or 99 digits, string 1,000 bytes, all names "
-        "127 bytes)",
-    14: "malformed parameterized string",
+}
+HEADER_SENTENCES = {
+    10: "the header is malformed, or there is none",
+    13: "an alias is longer than 14 bytes, or all names than 127",
+}
+STRING_SENTENCES = {
+    1: "the string is longer than 1,000 bytes",
+    14: "malformed item, or a conditional that is not closed",
     15: "an item takes a value from the empty stack",
     16: "an item puts a value on the full stack of 20",
-    17: "the place is beyond the edition or the buffer",
 }
-IN_HEADER = ", in the header, or there is none (byte 0)\n"
+OTHER_KIND = {
+    model.BOOLEAN: "is a boolean, which is written alone",
+    model.NUMBER: "is a number, which is written with #",
+    model.STRING: "is a string, which is written with =",
+}
 OTHER_USER = ["setpriv", "--reuid=65534", "--regid=65534", "--clear-groups"]
 PATH_MOST = 4095  # the most bytes of a path on Linux
-PLACE = re.compile(r".*, at byte (\d+) \(counted from 0\), line (\d+), column (\d+) "
-                   r"\(counted from 1\)\n")
-
 folder = Path()  # where ti is run
 
 
@@ -73,6 +78,40 @@ def files():
             for path in folder.rglob("*") if path.is_file()}
 
 
+def field_sentence(text, number, byte):
+    """What ti says of the field at a byte."""
+    if number == 12:
+        return "use= is not covered"
+    if number == 10:
+        at_start = byte == 0 or text[byte - 1:byte] == b"\n"
+        return "a second header, or a field that is not indented" if at_start else "malformed field"
+    name = re.match(rb"[!-~]*?(?=[^!-~]|[,=#@]|$)", text[byte:])[0]
+    kind = next((kind for kind, names in enumerate(model.LISTS) if name.decode() in names), None)
+    quoted = f"'{shown(name, 32)}'"
+    if number == 11:
+        return f"unknown capability {quoted}" if kind is None else f"{quoted} {OTHER_KIND[kind]}"
+    return quoted + (" is above 32,767, or has more than 99 digits" if kind == model.NUMBER
+                     else " is longer than 1,000 bytes")
+
+
+def text_refusal(source, text, errors):
+    """The number and the byte of a text's refusal, whose message is held to its form."""
+    found = FIELD.fullmatch(errors)
+    if found is None:
+        name, sentence, number, byte = REFUSED.fullmatch(errors).groups()
+        same((name, byte in (None, "0")), (source, True), errors)
+        sentences = TEXT_SENTENCES if byte is None else HEADER_SENTENCES
+        same(sentence, sentences[int(number)], errors)
+        return int(number), None if byte is None else 0
+    name, line, column, sentence, number, byte = found.groups()
+    number, byte = int(number), int(byte)
+    start = text.rfind(b"\n", 0, byte) + 1
+    same((name, int(line), int(column)),
+         (source, text.count(b"\n", 0, byte) + 1, byte - start + 1), errors)
+    same(sentence, field_sentence(text, number, byte), errors)
+    return number, byte
+
+
 def compiled(name, text):
     """The number of the refusal, or 0, and its place, as ti gives them for a text.
 
@@ -87,21 +126,7 @@ def compiled(name, text):
         same(after, {**before, name: file}, "files")
         return 0, None, file
     same((status, printed, after), (1, "", before), text)
-    name, number, sentence = REFUSED.match(errors).groups()
-    same(name, "standard input", errors)
-    number = int(number)
-    same(sentence.startswith(SENTENCES[number]), True, errors)
-    if errors.endswith(IN_HEADER):
-        same(errors, f"ti: {name}: refused {number}: {SENTENCES[number]}{IN_HEADER}", text)
-        return number, 0, None
-    place = PLACE.fullmatch(errors)
-    same(place is not None, number in (10, 11, 12, 13), errors)
-    if place is None:
-        return number, None, None
-    byte, line, column = map(int, place.groups())
-    start = text.rfind(b"\n", 0, byte) + 1
-    same((line, column), (text.count(b"\n", 0, byte) + 1, byte - start + 1), text)
-    return number, byte, None
+    return *text_refusal("standard input", text, errors), None
 
 
 def expected(text):
@@ -128,32 +153,64 @@ def check_examples():
 def check_names():
     """Names of the file: in a folder, from outside, with signs, and as long as a name may be."""
     (folder / "in").mkdir()
-    names = ["in/file", "./in/../file", "a b", "-file", "*", "$(x)", "in/" + 255 * "n",
-             str(folder / "whole")]
+    names = ["in/file", "./in/../file", "a b", "*", "$(x)", "in/" + 255 * "n",
+             str(folder / "whole"), "-file", "--"]
+    put("act4.ti", act4.TEXT)
     for name in names:
-        same(ti("compile", name, text=act4.TEXT), (0, "compiled: 392 bytes\n", ""), name)
+        end = ["--"] if name[0] == "-" else []
+        same(ti("compile", *end, name, text=act4.TEXT), (0, "compiled: 392 bytes\n", ""), name)
         same((folder / name).read_bytes(), act4.dumped(), name)
+        for source in ("act4.ti", "-", "./act4.ti"):
+            put(name, OLD)
+            same(ti("compile", source, name, text=act4.TEXT), (0, "compiled: 392 bytes\n", ""),
+                 name)
+            same((folder / name).read_bytes(), act4.dumped(), name)
     old = os.umask(0o027)
     same(ti("compile", "closed", text=act4.TEXT)[0], 0, "closed")
     os.umask(old)
     same(oct((folder / "closed").stat().st_mode), "0o100640", "mode of the file")
-    return len(names) + 1
+    return 4 * len(names) + 1
+
+
+def check_terminal():
+    """The line and a caret below a refusal, where standard error is a terminal."""
+    text = b"a|b,\n\tam,\tcols#80, wrong, it#8,\n"
+    put("wrong.ti", text)
+    said = b"ti: wrong.ti:2:15: unknown capability 'wrong' (refusal 11, byte 19)\n"
+    same(raw("compile", "wrong.ti", "out"), (1, b"", said.decode()), "no terminal")
+    for name, source in (("wrong.ti", ["wrong.ti"]), ("standard input", [])):
+        ours, theirs = os.openpty()
+        with open(folder / "wrong.ti", "rb") as stdin:
+            done = subprocess.run([TI, "compile", *source, "out"], cwd=folder, stderr=theirs,
+                                  stdin=stdin, stdout=subprocess.PIPE, check=False)
+        os.close(theirs)
+        told = os.read(ours, 10_000).replace(b"\r\n", b"\n")
+        os.close(ours)
+        same((done.returncode, done.stdout), (1, b""), name)
+        same(told, said.replace(b"wrong.ti", name.encode())
+             + b" am, cols#80, wrong, it#8,\n" + 14 * b" " + b"^\n", name)
+    return 3
 
 
 def check_failures():
     """Wrong usage, and input or output that fails: status 2, a message, and no file changed."""
     (folder / "taken").mkdir()
+    os.mkfifo(folder / "pipe")  # no regular file: a device could be lost
     before = files()
     unreadable = os.open(folder, os.O_RDONLY)
     runs = [ti(), ti("compile"), ti("compile", "old", stdin=unreadable)]
     os.close(unreadable)
-    for words in (["expand", "out"], ["compile", "out", "more"], ["compile", ""],
-                  ["compile", "missing/out"], ["compile", "taken"], ["compile", "taken/"],
-                  ["compile", "/dev/null"], ["compile", 256 * "n"], ["compile", 2100 * "n/"]):
+    for words in (["expand", "out"], ["compile", "in", "out", "more"], ["compile", ""],
+                  ["compile", "-x", "out"], ["compile", "-"], ["compile", "missing", "out"],
+                  ["compile", "taken", "out"], ["compile", "missing/out"], ["compile", "taken"],
+                  ["compile", "taken/"],
+                  ["compile", "pipe"], ["compile", 256 * "n"], ["compile", 2100 * "n/"]):
         runs.append(ti(*words, text=act4.TEXT))
     for status, printed, errors in runs:
         same((status, printed, errors == ""), (2, "", False), errors)
     same(files(), before, "files")
+    same((folder / "pipe").is_fifo(), True, "pipe")
+    (folder / "pipe").unlink()
     return len(runs)
 
 
@@ -168,14 +225,13 @@ def put(name, file):
     return name
 
 
-def refused(found, name, number, tail=""):
-    """A run that refuses the file of this name, and says where."""
+def refused(found, name, number, sentence=None, byte=None):
+    """A run that refuses what has this name, by the number, the sentence and the byte."""
     status, printed, errors = found
     same((status, printed), (1, b""), errors)
-    said = REFUSED.fullmatch(errors)
-    same(said and said.groups()[:2], (name, str(number)), errors)
-    same(said[3].startswith(SENTENCES[number]), True, errors)
-    same(errors.endswith(tail + "\n"), True, errors)
+    place = "" if byte is None else f", byte {byte}"
+    sentence = sentence or FILE_SENTENCES[number]
+    same(errors, f"ti: {name}: {sentence} (refusal {number}{place})\n", errors)
 
 
 def judged(file):
@@ -231,6 +287,26 @@ def check_file(file, given=None):
     return number
 
 
+def check_some(file):
+    """ti show of a few capabilities of an accepted file: their lines, in the order asked."""
+    put("file", file)
+    entry = model.open_entry(file, FIRST_EDITION)
+    names = [(kind, place, name) for kind, names in enumerate(model.LISTS)
+             for place, name in enumerate(names)]
+    asked = rng.sample(names, 4) + [names[10], names[21], names[39], names[39]]
+    lines = ""
+    for kind, place, name in asked:
+        state = model.content_state(entry, kind, place)
+        lines += (f"{name} is absent" if state[0] == model.ABSENT
+                  else shown_state(name, kind, state)) + "\n"
+    words = [name for _, _, name in asked]
+    same(raw("show", "file", *words), (0, lines.encode(), ""), words)
+    same(raw("show", "-", *words, given=file), (0, lines.encode(), ""), words)
+    for wrong in ("wrong", "", "cup=", "\n"):
+        refused(raw("show", "file", *words, wrong), "file", 11,
+                f"unknown capability '{shown(wrong.encode(), 32)}'")
+
+
 def check_files():
     """The lengths around the limits, by name and as standard input, then generated files."""
     ends = [b"", b"\x1a", bytes(11), bytes(12), act4.dumped(), act4.dumped() + b"\0",
@@ -238,11 +314,19 @@ def check_files():
     for file in ends:
         check_file(file)
         check_file(file, "-")
-    numbers = Counter(check_file(bytes(pick_file()[0])) for _ in range(FILES))
+    numbers, shows = Counter(), 0
+    for _ in range(FILES):
+        file = bytes(pick_file()[0])
+        number = check_file(file)
+        numbers[number] += 1
+        if number == 0 and shows < SHOWS:
+            check_some(file)
+            shows += 1
+    check_some(act4.dumped())
     missing = set(range(8)) - set(numbers)
     if missing:
         sys.exit(f"check and show: never seen: {missing}")
-    return 4 * len(ends) + 2 * FILES
+    return 4 * len(ends) + 2 * FILES + 6 * (shows + 1)
 
 
 def check_merge(first, second):
@@ -295,9 +379,9 @@ def check_expansion(string, values):
         nine = list(values) + [0] * (9 - len(values))
         made = expand_model.expand(string, nine, [0] * 26, 1 << 20, 0)
     except Refusal as refusal:
-        tail = f", at byte {refusal.value} of the string (counted from 0)"
         for run in found, verbose:
-            refused(run, "file", refusal.number, tail if refusal.number in (14, 15, 16) else "")
+            refused(run, "file: cup", refusal.number, STRING_SENTENCES[refusal.number],
+                    refusal.value if refusal.number in (14, 15, 16) else None)
         return refusal.number
     same(found, (0, made.output, ""), string)
     same(verbose, (0, f"{shown(made.output, 33)}\n{made.steps} steps\n".encode(), ""), string)
@@ -322,12 +406,12 @@ def check_expansions():
     same(raw("expand", "changed", "cup"), (1, b"", "ti: changed: cup is cancelled\n"), "cancelled")
     same(raw("expand", "changed", "el"), (1, b"", "ti: changed: el is absent\n"), "absent")
     same(raw("expand", "changed", "ri"), (0, b"", ""), "an empty string")
-    for name in ("zz", "am", "cols", "", "cup ", 5000 * "c"):
-        found = raw("expand", "changed", name)
-        if len(name) < 4096:
-            refused(found, "changed", 11)
-        else:
-            same(found[:2], (2, b""), "a long name")
+    for name, sentence in (("zz", "unknown capability 'zz'"), ("", "unknown capability ''"),
+                           ("am", "'am' is a boolean, not a string"),
+                           ("cols", "'cols' is a number, not a string"),
+                           ("cup\n", "unknown capability 'cup\\012'")):
+        refused(raw("expand", "changed", name), "changed", 11, sentence)
+    same(raw("expand", "changed", 5000 * "c")[:2], (2, b""), "a long name")
     for word in ("x", "", "-", "+1", "1x", " 1", "2147483648", "-2147483649", 20 * "9", 70 * "1"):
         same(raw("expand", "act", "cup", word)[:2], (2, b""), word)
     numbers = Counter()
@@ -344,19 +428,25 @@ def check_bad_files():
     """Files that can't be read and output that can't be written: status 2 and a message."""
     put("act", act4.dumped())
     (folder / "dir").mkdir(exist_ok=True)
+    os.mkfifo(folder / "pipe")
     before = files()
     runs = []
     for name in ("missing", "dir", "dir/", "", 256 * "n", 2100 * "n/", "act/x"):
         runs += [raw("check", name), raw("show", name), raw("expand", name, "cup"),
                  raw("merge", name, "act", "out"), raw("merge", "act", name, "out")]
     runs += [raw("merge", "act", "act", out)
-             for out in ("dir", "dir/", "missing/out", "/dev/null", "", 256 * "n")]
+             for out in ("dir", "dir/", "missing/out", "pipe", "", 256 * "n")]
     runs += [raw("compile", "-"), raw("merge", "act", "act", "-"), raw("merge", "-", "-", "out")]
     runs += [raw("check"), raw("show"), raw("check", "act", "act"), raw("merge", "act", "act"),
              raw("expand", "act"), raw("expand", "-v", "act"),
              raw("expand", "act", "cup", *"1234567890"),
-             raw("help", "act"), raw("help", "show", "show"), raw("list")]
-    for words in (["check", "act"], ["show", "act"], ["expand", "act", "cup"],
+             raw("help", "act"), raw("help", "show", "show"), raw("list"), raw(""), raw("help", ""),
+             raw("check", "-x", "act"), raw("show", "-x", "act"), raw("show", "--", "-x"),
+             raw("expand", "-x", "act", "cup"), raw("expand", "-v", "-x", "act", "cup"),
+             raw("expand", "-v"), raw("expand", "--", "-v", "act", "cup"), raw("merge", "-x"),
+             raw("merge", "-x", "act", "act", "out"), raw("merge"), raw("show", "act", 5000 * "c")]
+    for words in (["check", "act"], ["show", "act"], ["show", "act", "cup"],
+                  ["expand", "act", "cup"],
                   ["expand", "-v", "act", "cup"]):
         with open("/dev/full", "wb") as full:
             done = subprocess.run([TI, *words], cwd=folder, stdout=full,
@@ -374,7 +464,9 @@ def check_bad_files():
     for status, printed, errors in runs:
         same((status, printed, errors == ""), (2, b"", False), errors)
     same(files(), before, "files")
-    return len(runs) + 4
+    same((folder / "pipe").is_fifo(), True, "pipe")
+    (folder / "pipe").unlink()
+    return len(runs) + 6
 
 
 def long_path(name):
@@ -534,7 +626,8 @@ if __name__ == "__main__":
         folder = Path(name)
         rng.seed(SEED)
         counts = [check() for check in (
-            check_help, check_examples, check_names, check_failures, check_generated, check_files,
-            check_merges, check_expansions, check_bad_files, check_long_names,
+            check_help, check_examples, check_names, check_terminal, check_failures,
+            check_generated, check_files, check_merges, check_expansions,
+            check_bad_files, check_long_names,
             check_closed_streams, check_full_disk, check_no_rights)]
     print(f"{sum(counts)} runs of ti as stated, on document 01's examples and generated input")

@@ -6,7 +6,7 @@ from pathlib import Path
 
 import library
 import model
-from library import Reader, pack, part_of, state_of
+from library import REFUSED, Reader, pack, part_of, state_of
 
 FOLDER = Path(__file__).resolve().parent / "vectors"
 
@@ -49,6 +49,8 @@ def run_open():
         found, tables = reader.open()
         same(found, refusal(out), where)
         same((found, tables), reader.model_open(), where + " (model)")
+        for rooms in ((64, 64, 64, 512, 512, 512), (64, 64, 64, 512, 512, min(512, edition[2]) // 2)):
+            same(reader.list(rooms), reader.model_list(rooms), f"{where} list (model) {rooms}")
         count += 1
         if found:
             same(reader.names(), pack(17), where + " names")
@@ -84,7 +86,7 @@ def run_state():
         reader = Reader(file, given["edition"])
         answer = reader.state(kind, place)
         if out["number"]:
-            same(answer, refusal(out), where)
+            same(answer, refusal(out) | pack(kind=REFUSED), where)
         else:
             same(state_of(file, kind, answer), state_in(out["outcome"]), where)
         same(answer, reader.model_state(kind, place), where + " (model)")

@@ -3,9 +3,9 @@
 use mathlib.Core.Path.{_≡_, refl, sym, ap, _∙_}
 use mathlib.Core.Bool.{Bool, true, false}
 use mathlib.Core.List.{List, [], _∷_}
-use Prim.Native.Nat.{ℕ, _+_, _*_, _<_, _≤_, _/_, _^_}
+use Prim.Native.Nat.{ℕ, _+_, _*_, _<_, _≤_, _/_, _%_, _^_}
 use native.Mathlib.Omega.{arith}
-use lib.Dec.{ltb}
+use lib.Dec.{eqb, ltb}
 use lib.ListN.{length, getD}
 use borrow.Author.Tests.{ltb-true}
 use Rattle.base.specs.If.{if_then_else_}
@@ -15,7 +15,7 @@ use Rattle.word.specs.Word.{word}
 use Rattle.edition.specs.declared.Kind.{Kind}
 use Rattle.edition.specs.declared.Kind.the-variants as K
 use Rattle.edition.specs.declared.Place.{Place}
-use Rattle.edition.specs.Edition.{knows}
+use Rattle.edition.specs.Edition.{knows, place}
 use Rattle.entry.specs.declared.Part.{Part}
 use Rattle.entry.specs.declared.FileRefusal.{FileRefusal}
 use Rattle.entry.specs.declared.FileRefusal.the-variants as R
@@ -41,6 +41,9 @@ use Rattle.names.specs.declared.Name.{Name}
 use Rattle.names.specs.declared.Name.the-variants as A
 use Rattle.names.specs.Names.{ascii, parted, named, booleanNames, numberNames, stringNames, namesOf}
 use Rattle.names.specs.Naming.{packed, naming, saysName}
+use Rattle.names.specs.declared.Found.{Found}
+use Rattle.names.specs.declared.Found.the-variants as F
+use Rattle.names.specs.Finding.{Capability, saysFound}
 use Rattle.names.proofs.Places.{all, all-at}
 use Rattle.text.specs.declared.TextRefusal.{TextRefusal}
 use Rattle.text.specs.declared.TextRefusal.the-variants as T
@@ -51,12 +54,13 @@ use Rattle.text_laws.specs.Values.{Bounded}
 use Rattle.expansion.specs.declared.Expansion.{Expansion}
 use Rattle.expansion.specs.declared.Expansion.the-variants as E
 use Rattle.expansion.specs.Expanding.{Counts, saysExpansion}
-use Rattle.c_numbers.specs.Numbers.{numbered, none, stateCode, booleanCode, numberCode, partCode, stringCode}
+use Rattle.c_numbers.specs.Numbers.{numbered, none, stateCode, kinded, partCode, kindCode, capabilityCode}
 use Rattle.c_numbers.specs.Numbers.{openingArray, expansionNumber}
 use Rattle.c_numbers.specs.Numbers.{PartWithin, NamesWithin, StringWithin, WrittenWithin, MergedWithin}
+use Rattle.c_numbers.specs.Numbers.{PlaceWithin, FoundWithin}
 use Rattle.answer_laws.specs.Distinct.{Injective}
 use Rattle.answer_laws.specs.Numbers.{Any, NumberWithin, NameWithin, ExpansionWithin}
-use Rattle.answer_laws.specs.Numbers.{TopByte, Tells, Numbers}
+use Rattle.answer_laws.specs.Numbers.{TopByte, Tells, KindByte, Numbers}
 use Rattle.answer_laws.proofs.Back as back
 use Rattle.answer_laws.proofs.Distinct.{distinct}
 
@@ -142,7 +146,7 @@ StateOk Ok cancelled = Unit {0}
 StateOk Ok (present x) = Ok x
 
 module _ {A : Type 0} (Ok : A → Type 0) (code : A → ℕ) (below : (x : A) → Ok x → code x < 2 ^ 48) where
-  state-below : (s : State A) → StateOk Ok s → stateCode code s < 2 ^ 56
+  state-below : (s : State A) → StateOk Ok s → stateCode code s < 3 * 2 ^ 48
   unfolding stateCode
   state-below absent h = omega arith
   state-below cancelled h = omega arith
@@ -161,7 +165,125 @@ module _ {A : Type 0} (Ok : A → Type 0) (code : A → ℕ) (below : (x : A) �
   state-tells tell (present x) cancelled h k e = absurd (let z : ⊥ = omega (arith, below x h) in z)
   state-tells tell (present x) (present y) h k e = ap present (tell x y h k (omega arith))
 
+-- ---- answers with a kind
+
+-- a refusal with the bits of its kind as its value
+abbrev marked : {A : Type 0} → Answer A → Answer A
+marked (refused n v) = refused n (3 * 2 ^ 48 ∷ [])
+marked (gives x) = gives x
+
+marked-number : {A : Type 0} (a : Answer A) → numberOf (marked a) ≡ numberOf a
+marked-number (refused n v) = refl
+marked-number (gives x) = refl
+
+marked-given : {A : Type 0} (a : Answer A) → isGiven (marked a) ≡ isGiven a
+marked-given (refused n v) = refl
+marked-given (gives x) = refl
+
+module _ {R A : Type 0} (says : R → Answer A) (Within : R → Type 0) (Ok : A → Type 0) (code : A → ℕ)
+    (fits : (r : R) → Within r → Fits Ok (marked (says r))) (below : (x : A) → Ok x → code x < 3 * 2 ^ 48) where
+  kinded-number : (a : Answer A) → kinded code a ≡ numbered code (marked a)
+  unfolding kinded numbered
+  kinded-number (refused n v) = refl
+  kinded-number (gives x) = refl
+
+  refused-kind : (a : Answer A) → isGiven a ≡ false → kinded code a / 2 ^ 48 % 256 ≡ 3
+  unfolding kinded
+  refused-kind (refused n v) e = omega arith
+  refused-kind (gives x) e = absurd (true-false e)
+
+  given-kind : (a : Answer A) → Fits Ok (marked a) → isGiven a ≡ true → kinded code a / 2 ^ 48 % 256 ≤ 2
+  unfolding kinded
+  given-kind (refused n v) h e = absurd (true-false (sym e))
+  given-kind (gives x) h e = omega (arith, below x h)
+
+  kind-byte : KindByte says Within (kinded code)
+  kind-byte = record {
+    refused = λ r w e. refused-kind (says r) e;
+    given = λ r w e. omega (arith, given-kind (says r) (fits r w) e);
+  }
+
+  kinded-telling : ((x y : A) → Ok x → Ok y → code x ≡ code y → x ≡ y)
+      → (b : Answer A → R) → ((r : R) → b (back.plain (marked (says r))) ≡ r) → Tells says Within (kinded code)
+  kinded-telling tell b law = record {
+    byte = record {
+      top = λ r w. rw (kinded-number (says r)) (as-marked .byte .top r w ∙ marked-number (says r));
+      success = λ r w e.
+          omega (arith, kinded-number (says r), as-marked .byte .success r w (marked-given (says r) ∙ e));
+      refusal = λ r w e.
+          omega (arith, kinded-number (says r), as-marked .byte .refusal r w (marked-given (says r) ∙ e));
+    };
+    tells = λ r s v w e.
+        as-marked .tells r s v w (sym (kinded-number (says r)) ∙ e ∙ kinded-number (says s));
+  }
+    where
+      as-marked : Tells (λ r. marked (says r)) Within (numbered code)
+      as-marked =
+          telling (λ r. marked (says r)) Within Ok code fits (λ x h. omega (arith, below x h)) tell b law
+
+boolean-back : (r : BooleanState) → back.boolean (back.plain (marked (saysBoolean r))) ≡ r
+boolean-back B.Absent = refl
+boolean-back B.Cancelled = refl
+boolean-back B.Present = refl
+boolean-back B.Refused = refl
+
+number-back : (r : NumberState) → back.number (back.plain (marked (saysNumber r))) ≡ r
+number-back N.Absent = refl
+number-back N.Cancelled = refl
+number-back (N.Present n) = refl
+number-back N.Refused = refl
+
+string-back : (r : StringState) → back.string (back.plain (marked (saysString r))) ≡ r
+string-back S.Absent = refl
+string-back S.Cancelled = refl
+string-back (S.Present p) = refl
+string-back S.Refused = refl
+
+found-back : (r : Found) → back.found (back.plain (marked (saysFound r))) ≡ r
+found-back (F.Boolean p) = refl
+found-back (F.Number p) = refl
+found-back (F.String p) = refl
+found-back F.Unknown = refl
+
+-- ---- capabilities
+
+abbrev CapabilityOk : Capability → Type 0
+CapabilityOk c = PlaceWithin (c .place)
+
+abbrev kindOf : ℕ → Kind
+kindOf n = if eqb n 0 then K.Boolean else if eqb n 1 then K.Number else K.String
+
+kind-back : (k : Kind) → kindOf (kindCode k) ≡ k
+kind-back K.Boolean = refl
+kind-back K.Number = refl
+kind-back K.String = refl
+
+kind-most : (k : Kind) → kindCode k ≤ 2
+kind-most K.Boolean = omega arith
+kind-most K.Number = omega arith
+kind-most K.String = omega arith
+
+-- a kind's number above a place
+apart : (j k p q : ℕ) → p < 2 ^ 48 → q < 2 ^ 48 → j * 2 ^ 48 + p ≡ k * 2 ^ 48 + q → (j ≡ k) × (p ≡ q)
+apart j k p q l m e = (omega arith, omega arith)
+
+capability-below : (c : Capability) → CapabilityOk c → capabilityCode c < 3 * 2 ^ 48
+capability-below c h = omega (arith, kind-most (c .kind))
+
+capability-tells : (c d : Capability) → CapabilityOk c → CapabilityOk d → capabilityCode c ≡ capabilityCode d → c ≡ d
+capability-tells c d h l e =
+    let s = apart (kindCode (c .kind)) (kindCode (d .kind)) (c .place .0) (d .place .0) h l e in
+    let k : c .kind ≡ d .kind = sym (kind-back (c .kind)) ∙ ap kindOf (s .0) ∙ kind-back (d .kind) in
+    let p : c .place ≡ d .place = ap place (s .1) in
+    λ i. record { kind = k i; place = p i }
+
 -- ---- each enum's answers fit
+
+found-fits : (r : Found) → FoundWithin r → Fits CapabilityOk (marked (saysFound r))
+found-fits (F.Boolean p) h = h
+found-fits (F.Number p) h = h
+found-fits (F.String p) h = h
+found-fits F.Unknown h = omega arith
 
 file-some : (r : FileRefusal) → 1 ≤ fileNumber r
 file-some R.Length = omega arith
@@ -186,19 +308,19 @@ names-fits : (r : Names) → NamesWithin r → Fits PartWithin (saysNames r)
 names-fits (M.At p) h = h
 names-fits M.Refused h = omega arith
 
-boolean-fits : (r : BooleanState) → Any r → Fits (StateOk Any) (saysBoolean r)
+boolean-fits : (r : BooleanState) → Any r → Fits (StateOk Any) (marked (saysBoolean r))
 boolean-fits B.Absent h = tt
 boolean-fits B.Cancelled h = tt
 boolean-fits B.Present h = tt
 boolean-fits B.Refused h = omega arith
 
-number-fits : (r : NumberState) → NumberWithin r → Fits (StateOk InWord) (saysNumber r)
+number-fits : (r : NumberState) → NumberWithin r → Fits (StateOk InWord) (marked (saysNumber r))
 number-fits N.Absent h = tt
 number-fits N.Cancelled h = tt
 number-fits (N.Present n) h = h
 number-fits N.Refused h = omega arith
 
-string-fits : (r : StringState) → StringWithin r → Fits (StateOk PartWithin) (saysString r)
+string-fits : (r : StringState) → StringWithin r → Fits (StateOk PartWithin) (marked (saysString r))
 string-fits S.Absent h = tt
 string-fits S.Cancelled h = tt
 string-fits (S.Present p) h = h
@@ -359,6 +481,17 @@ array-tells o p e = λ i. record {
     at : (k : ℕ) → getD (openingArray o) k 0 ≡ getD (openingArray p) k 0
     at k = ap (λ (a : List ℕ). getD a k 0) e
 
+-- ---- states are below the kind of a refusal
+
+booleans-below : (s : State Unit) → StateOk Any s → stateCode none s < 3 * 2 ^ 48
+booleans-below = state-below Any none (λ x h. omega arith)
+
+numbers-below : (s : State ℕ) → StateOk InWord s → stateCode (λ n. n) s < 3 * 2 ^ 48
+numbers-below = state-below InWord (λ n. n) (λ x h. omega arith)
+
+strings-below : (s : State Part) → StateOk PartWithin s → stateCode partCode s < 3 * 2 ^ 48
+strings-below = state-below PartWithin partCode part-below
+
 -- ---- all of them
 
 pub numbers : Numbers
@@ -368,16 +501,22 @@ numbers =
           telling saysNames NamesWithin PartWithin partCode names-fits (λ p h. omega arith) part-tells
           back.names back.names-back;
       boolean =
-          telling saysBoolean Any (StateOk Any) booleanCode boolean-fits (state-below Any none (λ x h. omega arith))
-          (state-tells Any none (λ x h. omega arith) (λ x y h k e. refl)) back.boolean back.boolean-back;
+          kinded-telling saysBoolean Any (StateOk Any) (stateCode none) boolean-fits booleans-below
+          (state-tells Any none (λ x h. omega arith) (λ x y h k e. refl)) back.boolean boolean-back;
       number =
-          telling saysNumber NumberWithin (StateOk InWord) numberCode number-fits
-          (state-below InWord (λ n. n) (λ x h. omega arith))
-          (state-tells InWord (λ n. n) (λ x h. omega arith) (λ x y h k e. e)) back.number back.number-back;
+          kinded-telling saysNumber NumberWithin (StateOk InWord) (stateCode (λ n. n)) number-fits numbers-below
+          (state-tells InWord (λ n. n) (λ x h. omega arith) (λ x y h k e. e)) back.number number-back;
       string =
-          telling saysString StringWithin (StateOk PartWithin) stringCode string-fits
-          (state-below PartWithin partCode part-below) (state-tells PartWithin partCode part-below part-tells)
-          back.string back.string-back;
+          kinded-telling saysString StringWithin (StateOk PartWithin) (stateCode partCode) string-fits strings-below
+          (state-tells PartWithin partCode part-below part-tells) back.string string-back;
+      found =
+          kinded-telling saysFound FoundWithin CapabilityOk capabilityCode found-fits capability-below
+          capability-tells back.found found-back;
+      booleanKind = kind-byte saysBoolean Any (StateOk Any) (stateCode none) boolean-fits booleans-below;
+      numberKind = kind-byte saysNumber NumberWithin (StateOk InWord) (stateCode (λ n. n)) number-fits numbers-below;
+      stringKind =
+          kind-byte saysString StringWithin (StateOk PartWithin) (stateCode partCode) string-fits strings-below;
+      foundKind = kind-byte saysFound FoundWithin CapabilityOk capabilityCode found-fits capability-below;
       written =
           telling saysWritten WrittenWithin InFile (λ n. n) written-fits in-file-below (λ x y h k e. e)
           back.written back.written-back;

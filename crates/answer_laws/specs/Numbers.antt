@@ -1,9 +1,10 @@
 -- What a number for C tells (c_numbers/specs/Numbers.antt): its top byte is document 01's number, so that a success is
--- below 2 ^ 56 and a refusal isn't, and equal numbers come from equal answers.
+-- below 2 ^ 56 and a refusal isn't; the next byte of a state or a capability is its kind, 3 where it is refused; and
+-- equal numbers come from equal answers.
 -- Statements only: proofs/Numbers.antt has the proof. Assumes nothing.
 use mathlib.Core.Path.{_≡_}
 use mathlib.Core.Bool.{true, false}
-use Prim.Native.Nat.{ℕ, _<_, _≤_, _/_, _^_}
+use Prim.Native.Nat.{ℕ, _<_, _≤_, _/_, _%_, _^_}
 use Rattle.base.specs.Answer.{Answer, isGiven, numberOf}
 use Rattle.edition.specs.declared.Kind.{Kind}
 use Rattle.edition.specs.declared.Place.{Place}
@@ -14,13 +15,15 @@ use Rattle.entry.specs.Says.{saysOpened, saysNames, saysBoolean, saysNumber, sa
 use Rattle.names.specs.declared.Name.{Name}
 use Rattle.names.specs.declared.Name.the-variants as A
 use Rattle.names.specs.Naming.{naming, saysName}
+use Rattle.names.specs.Finding.{saysFound}
 use Rattle.text.specs.Compiling.{saysCompiled}
 use Rattle.text_laws.specs.Values.{Bounded}
 use Rattle.expansion.specs.declared.Expansion.{Expansion}
 use Rattle.expansion.specs.declared.Expansion.the-variants as E
 use Rattle.expansion.specs.Expanding.{saysExpansion}
-use Rattle.c_numbers.specs.Numbers.{numbered, none, booleanCode, numberCode, partCode, stringCode, openingArray}
-use Rattle.c_numbers.specs.Numbers.{expansionNumber, NamesWithin, StringWithin, WrittenWithin, MergedWithin}
+use Rattle.c_numbers.specs.Numbers.{numbered, none, partCode, booleanNumber, numberNumber, stringNumber, openingArray}
+use Rattle.c_numbers.specs.Numbers.{expansionNumber, capabilityNumber}
+use Rattle.c_numbers.specs.Numbers.{NamesWithin, StringWithin, WrittenWithin, MergedWithin, FoundWithin}
 use Rattle.answer_laws.specs.Distinct.{Injective}
 
 -- ---- bounds for answers whose contracts in c_numbers ask none
@@ -62,11 +65,21 @@ pub record Tells {R A : Type 0} (says : R → Answer A) (Within : R → Type 0) 
   pub byte : TopByte says Within number
   pub tells : (r s : R) → Within r → Within s → number (says r) ≡ number (says s) → r ≡ s
 
+-- bits 48 to 55 of the number of a state or a capability
+pub record KindByte {R A : Type 0} (says : R → Answer A) (Within : R → Type 0) (number : Answer A → ℕ) : Type 0 where
+  pub refused : (r : R) → Within r → isGiven (says r) ≡ false → number (says r) / 2 ^ 48 % 256 ≡ 3
+  pub given : (r : R) → Within r → isGiven (says r) ≡ true → number (says r) / 2 ^ 48 % 256 ≤ 2
+
 pub record Numbers : Type 0 where
   pub names : Tells saysNames NamesWithin (numbered partCode)
-  pub boolean : Tells saysBoolean Any (numbered booleanCode)
-  pub number : Tells saysNumber NumberWithin (numbered numberCode)
-  pub string : Tells saysString StringWithin (numbered stringCode)
+  pub boolean : Tells saysBoolean Any booleanNumber
+  pub number : Tells saysNumber NumberWithin numberNumber
+  pub string : Tells saysString StringWithin stringNumber
+  pub booleanKind : KindByte saysBoolean Any booleanNumber
+  pub numberKind : KindByte saysNumber NumberWithin numberNumber
+  pub stringKind : KindByte saysString StringWithin stringNumber
+  pub found : Tells saysFound FoundWithin capabilityNumber
+  pub foundKind : KindByte saysFound FoundWithin capabilityNumber
   pub written : Tells saysWritten WrittenWithin (numbered (λ n. n))
   pub merged : Tells saysMerged MergedWithin (numbered (λ n. n))
   pub compiled : Tells saysCompiled (λ r. Bounded (saysCompiled r)) (numbered (λ n. n))

@@ -1,6 +1,6 @@
 -- Each answer as one 64-bit number (include/terminfo_c.h says the same in words). Assumes nothing.
 use mathlib.Core.List.{List, [], _∷_}
-use Prim.Native.Nat.{ℕ, _+_, _*_, _%_, _^_, _≤_}
+use Prim.Native.Nat.{ℕ, _+_, _*_, _%_, _^_, _≤_, _<_}
 use lib.ListN.{getD}
 use Rattle.entry.specs.declared.Part.{Part}
 use Rattle.entry.specs.State.{State, absent, cancelled, present}
@@ -15,6 +15,12 @@ use Rattle.entry.specs.declared.Merged.the-variants as G
 use Rattle.entry.specs.Limits.{fileMost}
 use Rattle.base.specs.Answer.{Answer, refused, gives}
 use Rattle.entry.specs.Asking.{Opening}
+use Rattle.edition.specs.declared.Kind.{Kind}
+use Rattle.edition.specs.declared.Kind.the-variants as K
+use Rattle.edition.specs.declared.Place.{Place}
+use Rattle.names.specs.declared.Found.{Found}
+use Rattle.names.specs.declared.Found.the-variants as F
+use Rattle.names.specs.Finding.{Capability}
 use Rattle.expansion.specs.Expanding.{Counts}
 
 -- the refusal's number in the top byte and the first value that it gives below it; or what the call gives, by its own
@@ -34,18 +40,40 @@ stateCode code absent = 0
 stateCode code (present x) = 2 ^ 48 + code x
 stateCode code cancelled = 2 * 2 ^ 48
 
-abbrev pub booleanCode : State Unit → ℕ
-booleanCode s = stateCode none s
-
-abbrev pub numberCode : State ℕ → ℕ
-numberCode s = stateCode (λ n. n) s
-
 -- a part: its start above its length, which has 24 bits
 abbrev pub partCode : Part → ℕ
 partCode p = p .start * 2 ^ 24 + p .length
 
-abbrev pub stringCode : State Part → ℕ
-stringCode s = stateCode partCode s
+-- where the byte below the top one tells a kind, a refusal has a kind of its own there, 3, so that nobody reads it as
+-- absent
+abbrev pub refusedNumber : ℕ → ℕ
+refusedNumber n = n * 2 ^ 56 + 3 * 2 ^ 48
+
+unfoldable pub kinded : {A : Type 0} → (A → ℕ) → Answer A → ℕ
+kinded code (refused n v) = refusedNumber n
+kinded code (gives x) = code x
+
+abbrev pub booleanNumber : Answer (State Unit) → ℕ
+booleanNumber a = kinded (stateCode none) a
+
+abbrev pub numberNumber : Answer (State ℕ) → ℕ
+numberNumber a = kinded (stateCode (λ n. n)) a
+
+abbrev pub stringNumber : Answer (State Part) → ℕ
+stringNumber a = kinded (stateCode partCode) a
+
+-- a kind of capability
+abbrev pub kindCode : Kind → ℕ
+kindCode K.Boolean = 0
+kindCode K.Number = 1
+kindCode K.String = 2
+
+-- a capability: its kind in the byte below the top one, its place below it
+abbrev pub capabilityCode : Capability → ℕ
+capabilityCode c = kindCode (c .kind) * 2 ^ 48 + c .place .0
+
+abbrev pub capabilityNumber : Answer Capability → ℕ
+capabilityNumber a = kinded capabilityCode a
 
 -- the array that opening fills: slots of each list, where each table starts, slots beyond the edition
 abbrev pub openingArray : Opening → List ℕ
@@ -89,3 +117,13 @@ MergedWithin (G.File n) = n ≤ fileMost
 MergedWithin (G.Refused r) = Unit {0}
 MergedWithin G.Size = Unit {0}
 MergedWithin (G.Room n) = n ≤ fileMost
+
+-- a place lies in its list
+abbrev pub PlaceWithin : Place → Type 0
+PlaceWithin p = p .0 < 2 ^ 48
+
+abbrev pub FoundWithin : Found → Type 0
+FoundWithin (F.Boolean p) = PlaceWithin p
+FoundWithin (F.Number p) = PlaceWithin p
+FoundWithin (F.String p) = PlaceWithin p
+FoundWithin F.Unknown = Unit {0}

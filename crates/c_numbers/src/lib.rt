@@ -4,13 +4,15 @@
 ghost use mathlib.Core.Path.{_≡_};
 ghost use Prim.Native.Nat.{_*_, _^_};
 ghost use Rattle.entry.specs.Says.{saysNames, saysBoolean, saysNumber, saysString, saysWritten, saysMerged};
+ghost use Rattle.names.specs.Finding.{saysFound};
 ghost use Rattle.names.specs.Naming.{saysName};
 ghost use Rattle.text.specs.Compiling.{saysCompiled};
 ghost use Rattle.text_laws.specs.Values.{Bounded};
 ghost use Rattle.expansion.specs.Expanding.{saysExpansion};
-ghost use Rattle.c_numbers.specs.Numbers.{numbered, booleanCode, numberCode, stringCode, partCode};
-ghost use Rattle.c_numbers.specs.Numbers.{openingArray, expansionNumber};
-ghost use Rattle.c_numbers.specs.Numbers.{NamesWithin, StringWithin, WrittenWithin, MergedWithin};
+ghost use Rattle.c_numbers.specs.Numbers.{numbered, partCode, refusedNumber};
+ghost use Rattle.c_numbers.specs.Numbers.{booleanNumber, numberNumber, stringNumber};
+ghost use Rattle.c_numbers.specs.Numbers.{openingArray, expansionNumber, capabilityNumber};
+ghost use Rattle.c_numbers.specs.Numbers.{NamesWithin, StringWithin, WrittenWithin, MergedWithin, FoundWithin};
 use entry::Beyond;
 use entry::BooleanState;
 use entry::Merged;
@@ -20,6 +22,7 @@ use entry::StringState;
 use entry::Tables;
 use entry::Written;
 use expansion::Expansion;
+use names::Found;
 use names::Name;
 use text::Compiled;
 
@@ -37,6 +40,13 @@ pub fn top(number: u8) -> u64
     ensures { λ r. ⌜ r ≡ number * 2 ^ 56 ⌝ }
 {
     (number as u64) * TOP
+}
+
+// A refused state or name: the refusal's number, and a kind that no state and no capability has.
+pub fn refused_number(number: u8) -> u64
+    ensures { λ r. ⌜ r ≡ refusedNumber number ⌝ }
+{
+    top(number) + 3 * KIND
 }
 
 // What opening gives, as an array.
@@ -68,36 +78,36 @@ pub fn names_number(n: Names) -> u64
 }
 
 pub fn boolean_number(s: BooleanState) -> u64
-    ensures { λ r. ⌜ r ≡ numbered booleanCode (saysBoolean s) ⌝ }
+    ensures { λ r. ⌜ r ≡ booleanNumber (saysBoolean s) ⌝ }
 {
     match s {
         BooleanState::Absent => 0,
         BooleanState::Present => KIND,
         BooleanState::Cancelled => 2 * KIND,
-        BooleanState::Refused => top(refusal_numbers::of_boolean(s)),
+        BooleanState::Refused => refused_number(refusal_numbers::of_boolean(s)),
     }
 }
 
 pub fn number_number(s: NumberState) -> u64
-    ensures { λ r. ⌜ r ≡ numbered numberCode (saysNumber s) ⌝ }
+    ensures { λ r. ⌜ r ≡ numberNumber (saysNumber s) ⌝ }
 {
     match s {
         NumberState::Absent => 0,
         NumberState::Present(n) => KIND + n as u64,
         NumberState::Cancelled => 2 * KIND,
-        NumberState::Refused => top(refusal_numbers::of_number(s)),
+        NumberState::Refused => refused_number(refusal_numbers::of_number(s)),
     }
 }
 
 pub fn string_number(s: StringState) -> u64
     requires { ⌜ StringWithin s ⌝ }
-    ensures { λ r. ⌜ r ≡ numbered stringCode (saysString s) ⌝ }
+    ensures { λ r. ⌜ r ≡ stringNumber (saysString s) ⌝ }
 {
     match s {
         StringState::Absent => 0,
         StringState::Present(p) => KIND + (p.start as u64) * START + p.length as u64,
         StringState::Cancelled => 2 * KIND,
-        StringState::Refused => top(refusal_numbers::of_string(s)),
+        StringState::Refused => refused_number(refusal_numbers::of_string(s)),
     }
 }
 
@@ -166,5 +176,18 @@ pub fn expansion_number(e: Expansion) -> u64
         Expansion::Empty(i) => refusal + (i as u64) % TOP,
         Expansion::Full(i) => refusal + (i as u64) % TOP,
         Expansion::Room(n) => refusal + (n as u64) % TOP,
+    }
+}
+
+// A capability that a name means: its kind and its place.
+pub fn found_number(f: Found) -> u64
+    requires { ⌜ FoundWithin f ⌝ }
+    ensures { λ r. ⌜ r ≡ capabilityNumber (saysFound f) ⌝ }
+{
+    match f {
+        Found::Boolean(p) => p.0 as u64,
+        Found::Number(p) => KIND + p.0 as u64,
+        Found::String(p) => 2 * KIND + p.0 as u64,
+        Found::Unknown => refused_number(refusal_numbers::of_found(f)),
     }
 }

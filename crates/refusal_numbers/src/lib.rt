@@ -164,3 +164,15 @@ pub fn of_expansion(answer: Expansion) -> u8
         Expansion::Room(_) => 8,
     }
 }
+
+// A name looked up.
+pub fn of_found(answer: Found) -> u8
+    ensures { λ r. ⌜ r ≡ numberOf (saysFound answer) ⌝ }
+{
+    match answer {
+        Found::Boolean(_) => 0,
+        Found::Number(_) => 0,
+        Found::String(_) => 0,
+        Found::Unknown => 11,
+    }
+}

@@ -28,7 +28,7 @@ use Rattle.names.specs.Naming.{packed, beforeNul, unpacked, naming}
 use Rattle.print.proofs.DigitLaws.{digits-one, digits-more}
 use Rattle.shown.specs.Puts.{Puts, Holds}
 use Rattle.shown.proofs.PutsLaws.{counted, puts-most, puts-then}
-use Rattle.ti_common.proofs.Laws.{digits-most}
+use Rattle.ti_files.proofs.Laws.{digits-most}
 use Rattle.show_lines.specs.Lines.{nameOf, decimal}
 
 -- ---- a name's bytes from its number

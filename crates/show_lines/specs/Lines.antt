@@ -17,6 +17,8 @@ use Rattle.base.specs.Answer.{Answer, refused, gives}
 use Rattle.entry.specs.Reading.{bytesOf}
 use Rattle.entry.specs.Asking.{Opening, opening, askingNames, askingBoolean, askingNumber, askingString, namesGiven}
 use Rattle.names.specs.Names.{ascii, namesOf, firstEdition}
+use Rattle.names.specs.declared.Found.{Found}
+use Rattle.names.specs.declared.Found.the-variants as Capability
 use Rattle.expansion.specs.Print.{digits}
 use Rattle.shown.specs.Shown.{shown}
 
@@ -64,6 +66,13 @@ capabilityLine f k =
     if ltb k 21 then booleanLine f (place k)
     else if ltb k 29 then numberLine f (place (k - 21))
     else stringLine f (place (k - 29))
+
+-- the capability that looking a name up gave
+abbrev pub foundLine : List ℕ → Found → List ℕ
+foundLine f (Capability.Boolean p) = booleanLine f p
+foundLine f (Capability.Number p) = numberLine f p
+foundLine f (Capability.String p) = stringLine f p
+foundLine f Capability.Unknown = []
 
 unfoldable pub namesLine : List ℕ → List ℕ
 namesLine f = ascii "names: " ++ (shownNames (bytesOf f (namesGiven (askingNames firstEdition f))) ++ lineEnd)

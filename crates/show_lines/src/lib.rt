@@ -1,13 +1,18 @@
-// The lines that show a compiled file: its names, each capability, the slots beyond the edition. Proved: each line is
-// the one of specs/Lines.antt. Assumed: nothing.
+// The lines that show a compiled file: its names, each capability, the slots beyond the edition. The caller opens the
+// file, once for all lines. Proved: each line is the one of specs/Lines.antt. Assumed: nothing.
+ghost use mathlib.Core.Path.{_≡_};
 ghost use mathlib.Core.List.{_∷_, _++_};
 ghost use Prim.Native.Nat.{_+_, _*_, _≤_};
 ghost use lib.ListN.{length};
+ghost use Rattle.entry.specs.Asking.{opening, askingNames};
+ghost use Rattle.entry.specs.Says.{saysOpened, saysNames};
+ghost use Rattle.names.specs.Names.{firstEdition};
 ghost use Rattle.names.specs.Naming.{unpacked};
 ghost use Rattle.shown.specs.Puts.{Puts, Holds};
 ghost use Rattle.shown.specs.Shown.{shown};
 ghost use Rattle.show_lines.specs.Lines.{nameOf, decimal, lineEnd, lineRoom, countsLine, booleanLine};
-ghost use Rattle.show_lines.specs.Lines.{numberLine, stringLine, capabilityLine, namesLine, beyondLine};
+ghost use Rattle.show_lines.specs.Lines.{numberLine, stringLine, capabilityLine, foundLine, namesLine};
+ghost use Rattle.show_lines.specs.Lines.{beyondLine};
 use edition::Kind;
 use edition::Place;
 use entry::Beyond;
@@ -17,6 +22,7 @@ use entry::NumberState;
 use entry::Opened;
 use entry::StringState;
 use names::FIRST_EDITION;
+use names::Found;
 use names::Name;
 use shown::CONTENT_LEAST;
 use shown::NAMES_LEAST;
@@ -128,11 +134,11 @@ fn put_counts(out: &mut [u8], beyond: Beyond) -> usize
 }
 
 // The line of the boolean at a place.
-fn boolean_line(file: &[u8], place: Place, out: &mut [u8]) -> usize
-    requires { ⌜ lineRoom (now file) ≤ length (now out) ⌝ }
+fn boolean_line(file: &[u8], opened: Opened, place: Place, out: &mut [u8]) -> usize
+    requires { ⌜ (lineRoom (now file) ≤ length (now out)) × (saysOpened opened ≡ opening firstEdition (now file)) ⌝ }
     ensures { λ r. ⌜ Holds r (now (out .exit)) (booleanLine (now (file .entry)) place) ⌝ }
 {
-    match states::boolean(file, FIRST_EDITION, place) {
+    match opened_file::boolean_if_opened(file, FIRST_EDITION, opened, place) {
         BooleanState::Present => put_named(out, Kind::Boolean, place, b"\n"),
         BooleanState::Cancelled => put_named(out, Kind::Boolean, place, b"@\n"),
         BooleanState::Absent => 0,
@@ -141,11 +147,11 @@ fn boolean_line(file: &[u8], place: Place, out: &mut [u8]) -> usize
 }
 
 // The line of the number at a place.
-fn number_line(file: &[u8], place: Place, out: &mut [u8]) -> usize
-    requires { ⌜ lineRoom (now file) ≤ length (now out) ⌝ }
+fn number_line(file: &[u8], opened: Opened, place: Place, out: &mut [u8]) -> usize
+    requires { ⌜ (lineRoom (now file) ≤ length (now out)) × (saysOpened opened ≡ opening firstEdition (now file)) ⌝ }
     ensures { λ r. ⌜ Holds r (now (out .exit)) (numberLine (now (file .entry)) place) ⌝ }
 {
-    match states::number(file, FIRST_EDITION, place) {
+    match opened_file::number_if_opened(file, FIRST_EDITION, opened, place) {
         NumberState::Present(n) => put_value(out, place, n),
         NumberState::Cancelled => put_named(out, Kind::Number, place, b"@\n"),
         NumberState::Absent => 0,
@@ -154,11 +160,11 @@ fn number_line(file: &[u8], place: Place, out: &mut [u8]) -> usize
 }
 
 // The line of the string at a place.
-fn string_line(file: &[u8], place: Place, out: &mut [u8]) -> usize
-    requires { ⌜ lineRoom (now file) ≤ length (now out) ⌝ }
+fn string_line(file: &[u8], opened: Opened, place: Place, out: &mut [u8]) -> usize
+    requires { ⌜ (lineRoom (now file) ≤ length (now out)) × (saysOpened opened ≡ opening firstEdition (now file)) ⌝ }
     ensures { λ r. ⌜ Holds r (now (out .exit)) (stringLine (now (file .entry)) place) ⌝ }
 {
-    match states::string(file, FIRST_EDITION, place) {
+    match opened_file::string_if_opened(file, FIRST_EDITION, opened, place) {
         StringState::Present(p) => {
             let content = states::part(file, p);
             put_content(out, place, content)
@@ -170,26 +176,50 @@ fn string_line(file: &[u8], place: Place, out: &mut [u8]) -> usize
 }
 
 // The line of the k-th capability of all: the booleans, the numbers, the strings.
-pub fn capability_line(file: &[u8], k: usize, out: &mut [u8]) -> usize
-    requires { ⌜ lineRoom (now file) ≤ length (now out) ⌝ }
+pub fn capability_line(file: &[u8], opened: Opened, k: usize, out: &mut [u8]) -> usize
+    requires { ⌜ (lineRoom (now file) ≤ length (now out)) × (saysOpened opened ≡ opening firstEdition (now file)) ⌝ }
     ensures { λ r. ⌜ Holds r (now (out .exit)) (capabilityLine (now (file .entry)) k) ⌝ }
 {
     if k < NUMBERS_FROM {
-        return boolean_line(file, Place(k), out);
+        return boolean_line(file, opened, Place(k), out);
     }
     if k < STRINGS_FROM {
-        return number_line(file, Place(k - NUMBERS_FROM), out);
+        return number_line(file, opened, Place(k - NUMBERS_FROM), out);
     }
-    string_line(file, Place(k - STRINGS_FROM), out)
+    string_line(file, opened, Place(k - STRINGS_FROM), out)
+}
+
+// The line of the capability that looking a name up gave.
+pub fn found_line(file: &[u8], opened: Opened, found: Found, out: &mut [u8]) -> usize
+    requires { ⌜ (lineRoom (now file) ≤ length (now out)) × (saysOpened opened ≡ opening firstEdition (now file)) ⌝ }
+    ensures { λ r. ⌜ Holds r (now (out .exit)) (foundLine (now (file .entry)) found) ⌝ }
+{
+    match found {
+        Found::Boolean(place) => boolean_line(file, opened, place, out),
+        Found::Number(place) => number_line(file, opened, place, out),
+        Found::String(place) => string_line(file, opened, place, out),
+        Found::Unknown => 0,
+    }
+}
+
+// The names by what opening answered.
+fn names_if_opened(file: &[u8], opened: Opened) -> Names
+    requires { ⌜ saysOpened opened ≡ opening firstEdition (now file) ⌝ }
+    ensures { λ r. ⌜ saysNames r ≡ askingNames firstEdition (now (file .entry)) ⌝ }
+{
+    match opened {
+        Opened::Entry(t, _) => Names::At(opened_file::names_opened(file, FIRST_EDITION, t)),
+        Opened::Refused(_) => Names::Refused,
+    }
 }
 
 // The line of the names.
-pub fn names_line(file: &[u8], out: &mut [u8]) -> usize
-    requires { ⌜ lineRoom (now file) ≤ length (now out) ⌝ }
+pub fn names_line(file: &[u8], opened: Opened, out: &mut [u8]) -> usize
+    requires { ⌜ (lineRoom (now file) ≤ length (now out)) × (saysOpened opened ≡ opening firstEdition (now file)) ⌝ }
     ensures { λ r. ⌜ Holds r (now (out .exit)) (namesLine (now (file .entry))) ⌝ }
 {
     let at = put_text(out, 0, b"names: ");
-    match states::names(file, FIRST_EDITION) {
+    match names_if_opened(file, opened) {
         Names::At(p) => {
             let names = states::part(file, p);
             put_shown(out, at, NAMES_LEAST, names)
@@ -199,11 +229,11 @@ pub fn names_line(file: &[u8], out: &mut [u8]) -> usize
 }
 
 // The line of the slots beyond the first edition.
-pub fn beyond_line(file: &[u8], out: &mut [u8]) -> usize
-    requires { ⌜ lineRoom (now file) ≤ length (now out) ⌝ }
+pub fn beyond_line(file: &[u8], opened: Opened, out: &mut [u8]) -> usize
+    requires { ⌜ (lineRoom (now file) ≤ length (now out)) × (saysOpened opened ≡ opening firstEdition (now file)) ⌝ }
     ensures { λ r. ⌜ Holds r (now (out .exit)) (beyondLine (now (file .entry))) ⌝ }
 {
-    match read::open(file, FIRST_EDITION) {
+    match opened {
         Opened::Entry(_, beyond) => put_counts(out, beyond),
         Opened::Refused(_) => 0,
     }

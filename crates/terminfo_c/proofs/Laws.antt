@@ -5,9 +5,9 @@ use mathlib.Core.Bool.{Bool, true, false, _&&_, not}
 use mathlib.Core.List.{List, [], _∷_}
 use Prim.Native.Nat.{ℕ, _+_, _*_, _^_, _≤_, _<_}
 use native.Mathlib.Omega.{arith}
-use lib.Dec.{eqb, leb}
-use lib.ListN.{length, getD}
-use borrow.Author.Tests.{eq-eqb, ne-eqb, leb-true}
+use lib.Dec.{eqb, leb, ltb}
+use lib.ListN.{length, getD, take, length-take}
+use borrow.Author.Tests.{eq-eqb, ne-eqb, leb-true, ltb-true}
 use Rattle.base.specs.If.{if_then_else_}
 use Rattle.base.specs.Scan.{every}
 use Rattle.base.specs.Tabulate.{tabulate}
@@ -36,9 +36,16 @@ use Rattle.entry.specs.Merging.{merged, merging}
 use Rattle.entry.specs.Says.{saysNames, saysString, saysWritten, saysMerged}
 use Rattle.entry_laws.specs.Demands.{written-only-if}
 use Rattle.entry_laws.specs.MergeDemands.{merged-only-if}
+use Rattle.names.specs.declared.Found.the-variants as F
+use Rattle.names.specs.Names.{booleanNames, numberNames, stringNames}
+use Rattle.names.specs.Lookup.{lookingUp}
 use Rattle.names.specs.Naming.{naming}
+use Rattle.names.proofs.LookupLaws.{booleans-length, numbers-length, strings-length}
+use Rattle.list_states.specs.Listing.{done}
 use Rattle.opened_file.proofs.Laws.{asking-given, opened-accepted, names-inside, string-inside}
-use Rattle.c_numbers.specs.Numbers.{numbered, none, openingArray, booleanCode, numberCode, stringCode, NamesWithin, StringWithin, WrittenWithin, MergedWithin}
+use Rattle.c_numbers.specs.Numbers.{numbered, none, openingArray, refusedNumber}
+use Rattle.c_numbers.specs.Numbers.{booleanNumber, numberNumber, stringNumber}
+use Rattle.c_numbers.specs.Numbers.{NamesWithin, StringWithin, WrittenWithin, MergedWithin, FoundWithin}
 use Rattle.terminfo_c.specs.Calls.{arrayAfter, askedCode, asking8, namingBy}
 
 -- ---- parts lie in a file
@@ -65,21 +72,21 @@ string-within e f p S.Refused h = tt
 -- ---- a place asked for by the number of its kind
 
 module _ (e : Edition) (f : List ℕ) (k i : ℕ) where
-  pub asked-boolean : k ≡ 0 → numbered booleanCode (askingBoolean e f (place i)) ≡ askedCode e f k i
+  pub asked-boolean : k ≡ 0 → booleanNumber (askingBoolean e f (place i)) ≡ askedCode e f k i
   unfolding askedCode
   asked-boolean a = rw (eq-eqb k 0 a)
 
   module _ (z : k ≡ 0 → ⊥) where
-    pub asked-number : k ≡ 1 → numbered numberCode (askingNumber e f (place i)) ≡ askedCode e f k i
+    pub asked-number : k ≡ 1 → numberNumber (askingNumber e f (place i)) ≡ askedCode e f k i
     unfolding askedCode
     asked-number a = rw (ne-eqb k 0 z, eq-eqb k 1 a)
 
     module _ (y : k ≡ 1 → ⊥) where
-      pub asked-string : k ≡ 2 → numbered stringCode (askingString e f (place i)) ≡ askedCode e f k i
+      pub asked-string : k ≡ 2 → stringNumber (askingString e f (place i)) ≡ askedCode e f k i
       unfolding askedCode
       asked-string a = rw (ne-eqb k 0 z, ne-eqb k 1 y, eq-eqb k 2 a)
 
-      pub asked-none : (k ≡ 2 → ⊥) → 17 * 2 ^ 56 ≡ askedCode e f k i
+      pub asked-none : (k ≡ 2 → ⊥) → refusedNumber 17 ≡ askedCode e f k i
       unfolding askedCode
       asked-none x = rw (ne-eqb k 0 z, ne-eqb k 1 y, ne-eqb k 2 x)
 
@@ -234,3 +241,36 @@ pub numbered-length : (a : Answer (List ℕ)) → numbered (λ n. n) (mapAnswer 
 unfolding numbered
 numbered-length (refused n v) = refl
 numbered-length (gives f) = refl
+
+-- ---- a name's place lies in its list
+
+there-below : (c n : ℕ) (names : List (List ℕ)) (i : ℕ) → length names ≡ n → n ≤ 138
+    → ltb i (length (take c names)) ≡ true → i < 2 ^ 48
+there-below c n names i e b h =
+    let l = ltb-true i (length (take c names)) h in
+    let m = length-take c names in
+    omega arith
+
+by-tests : (x y z : Bool) (i j k : ℕ) → (x ≡ true → i < 2 ^ 48) → (y ≡ true → j < 2 ^ 48) → (z ≡ true → k < 2 ^ 48)
+    → FoundWithin (if x then F.Boolean (place i) else if y then F.Number (place j)
+    else if z then F.String (place k) else F.Unknown)
+by-tests true y z i j k f g h = f refl
+by-tests false true z i j k f g h = g refl
+by-tests false false true i j k f g h = h refl
+by-tests false false false i j k f g h = tt
+
+pub found-within : (e : Edition) (n : List ℕ) → FoundWithin (lookingUp e n)
+unfolding lookingUp
+found-within e n =
+    by-tests _ _ _ _ _ _
+    (there-below (e .booleans) 21 booleanNames _ booleans-length (omega arith))
+    (there-below (e .numbers) 8 numberNames _ numbers-length (omega arith))
+    (there-below (e .strings) 138 stringNames _ strings-length (omega arith))
+
+-- ---- listing every state
+
+-- what a call that gives nothing in its number gives has no part in it
+pub numbered-done : {A : Type 0} (a : Answer A) → numbered none (mapAnswer done a) ≡ numbered none a
+unfolding numbered
+numbered-done (refused n v) = refl
+numbered-done (gives x) = refl

@@ -23,7 +23,7 @@ fn asked_number(file: &[u8], e: Edition, o: Opened, kind: u8, place: usize) -> u
     if kind == 2 {
         return c_numbers::string_number(opened_file::string_if_opened(file, e, o, Place(place)));
     }
-    17 * c_numbers::TOP
+    c_numbers::refused_number(17)
 }
 
 // The states at eight places.

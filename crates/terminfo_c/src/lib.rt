@@ -8,15 +8,18 @@ ghost use Rattle.entry.specs.Asking.{opening, askingNames};
 ghost use Rattle.entry.specs.Handed.{handed};
 ghost use Rattle.expansion.specs.Expanding.{expanding};
 ghost use Rattle.c_numbers.specs.Numbers.{numbered, none, partCode, openingArray};
-ghost use Rattle.terminfo_c.specs.Calls.{edition, arrayAfter, booleanNumber, numberNumber, stringNumber};
+ghost use Rattle.terminfo_c.specs.Calls.{edition, arrayAfter, booleanState, numberState, stringState};
 ghost use Rattle.terminfo_c.specs.Calls.{asking8, namingBy, WrittenNumber, MergedNumber, CompiledNumber};
-ghost use Rattle.terminfo_c.specs.Calls.{ExpandedNumber};
+ghost use Rattle.terminfo_c.specs.Calls.{ExpandedNumber, ListedNumber, findNumber, namedState};
+ghost use Rattle.list_states.specs.Listing.{arrays};
 use edition::Edition;
 use edition::Kind;
 use edition::Place;
 use entry::Opened;
+use names::Found;
 
 mod ask;
+mod list;
 
 // Opens a file: 0, with the array filled, or the refusal.
 #[no_mangle]
@@ -77,7 +80,7 @@ pub extern "C" fn terminfo_boolean(
     strings: usize,
     place: usize,
 ) -> u64
-    ensures { λ r. ⌜ r ≡ booleanNumber booleans numbers strings (now (file .entry)) place ⌝ }
+    ensures { λ r. ⌜ r ≡ booleanState booleans numbers strings (now (file .entry)) place ⌝ }
 {
     let s = states::boolean(
         file,
@@ -100,7 +103,7 @@ pub extern "C" fn terminfo_number(
     strings: usize,
     place: usize,
 ) -> u64
-    ensures { λ r. ⌜ r ≡ numberNumber booleans numbers strings (now (file .entry)) place ⌝ }
+    ensures { λ r. ⌜ r ≡ numberState booleans numbers strings (now (file .entry)) place ⌝ }
 {
     let s = states::number(
         file,
@@ -123,7 +126,7 @@ pub extern "C" fn terminfo_string(
     strings: usize,
     place: usize,
 ) -> u64
-    ensures { λ r. ⌜ r ≡ stringNumber booleans numbers strings (now (file .entry)) place ⌝ }
+    ensures { λ r. ⌜ r ≡ stringState booleans numbers strings (now (file .entry)) place ⌝ }
 {
     let s = states::string(
         file,
@@ -166,6 +169,43 @@ pub extern "C" fn terminfo_ask(
         }
         Opened::Refused(_) => 17 * c_numbers::TOP,
     }
+}
+
+// The states of every place that the edition knows: 0, with the arrays filled, or the refusal.
+#[no_mangle]
+pub extern "C" fn terminfo_list(
+    file: &[u8],
+    booleans: usize,
+    numbers: usize,
+    strings: usize,
+    boolean_kinds: &mut [u8],
+    number_kinds: &mut [u8],
+    number_values: &mut [u32],
+    string_kinds: &mut [u8],
+    string_starts: &mut [usize],
+    string_lengths: &mut [usize],
+) -> u64
+    ensures { λ r. ⌜ ListedNumber (edition booleans numbers strings) (now (file .entry))
+        (arrays (now («boolean_kinds» .entry)) (now («number_kinds» .entry)) (now («number_values» .entry))
+        (now («string_kinds» .entry)) (now («string_starts» .entry)) (now («string_lengths» .entry)))
+        (arrays (now («boolean_kinds» .exit)) (now («number_kinds» .exit)) (now («number_values» .exit))
+        (now («string_kinds» .exit)) (now («string_starts» .exit)) (now («string_lengths» .exit))) r ⌝ }
+{
+    let l = list_states::list(
+        file,
+        Edition {
+            booleans,
+            numbers,
+            strings,
+        },
+        boolean_kinds,
+        number_kinds,
+        number_values,
+        string_kinds,
+        string_starts,
+        string_lengths,
+    );
+    list::listed_number(l)
 }
 
 // Writes a file: its length, or the refusal.
@@ -276,4 +316,45 @@ pub extern "C" fn terminfo_expand(
 {
     let nine = *arguments;
     c_numbers::expansion_number(expand::expand_lent(string, nine, lasting, buffer, at))
+}
+
+// The capability that a name means in an edition: its kind and its place, or 11.
+#[no_mangle]
+pub extern "C" fn terminfo_find(name: &[u8], booleans: usize, numbers: usize, strings: usize) -> u64
+    ensures { λ r. ⌜ r ≡ findNumber booleans numbers strings (now (name .entry)) ⌝ }
+{
+    let f = lookup::find(
+        name,
+        Edition {
+            booleans,
+            numbers,
+            strings,
+        },
+    );
+    c_numbers::found_number(f)
+}
+
+// The state of the capability that a name means: 11 for a name that the edition doesn't know, else the state.
+#[no_mangle]
+pub extern "C" fn terminfo_state(
+    file: &[u8],
+    booleans: usize,
+    numbers: usize,
+    strings: usize,
+    name: &[u8],
+) -> u64
+    ensures { λ r. ⌜ r ≡ namedState booleans numbers strings (now (file .entry)) (now (name .entry)) ⌝ }
+{
+    let e = Edition {
+        booleans,
+        numbers,
+        strings,
+    };
+    let f = lookup::find(name, e);
+    match f {
+        Found::Boolean(p) => c_numbers::boolean_number(states::boolean(file, e, p)),
+        Found::Number(p) => c_numbers::number_number(states::number(file, e, p)),
+        Found::String(p) => c_numbers::string_number(states::string(file, e, p)),
+        Found::Unknown => c_numbers::refused_number(refusal_numbers::of_found(f)),
+    }
 }

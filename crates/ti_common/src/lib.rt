@@ -1,25 +1,24 @@
-// What the programs behind ti share: reading a file whole, saying a refusal, showing bytes, saving a file whole, and
-// the status that a program ends with. Proved: each function is safe and ends, and those of `refusal` and `shown`
-// give what specs/ and the library's definitions say. Assumed: what libc and os say of C.
+// What the commands of ti share: their words, what they write, and the status that they end with. Proved: each
+// function is safe and ends. Assumed: what libc and os say of C.
 ghost use Rattle.io.specs.Counts.{Counts};
 use entry::FILE_MOST;
 use libc::STDERR_FILENO;
 use libc::STDOUT_FILENO;
 
-pub mod input;
 pub mod output;
-pub mod refusal;
-pub mod save;
+pub mod words;
 
 // The room for a compiled file: one byte more than it may have, so that a longer one is refused and never cut.
 pub const FILE_ROOM: usize = FILE_MOST + 1;
 
-// How a program ends.
+// How a command ends.
 pub enum Status {
     Done,
     Refused,
     // input or output failed, or the words given are wrong
     Failed,
+    // no command has the name
+    Unknown,
 }
 
 // The descriptor on which `ti` takes the status: a program of Rattle has none of its own.
@@ -35,6 +34,7 @@ pub fn finish(status: Status) {
         Status::Done => hand_over(b"0"),
         Status::Refused => hand_over(b"1"),
         Status::Failed => hand_over(b"2"),
+        Status::Unknown => hand_over(b"2"),
     }
 }
 

@@ -2,7 +2,7 @@
 -- Assumes nothing.
 use mathlib.Core.Path.{subst}
 use native.Mathlib.Omega.{arith}
-use Rattle.c_numbers.specs.Numbers.{numbered, stateCode, StringWithin}
+use Rattle.c_numbers.specs.Numbers.{kinded, stateCode, StringWithin}
 use borrow.Author.Needs.{needs}
 use Rattle.c_numbers.proofs.string_number.Statement.{statement}
 use Rattle.c_numbers.proofs.string_number.Tie as tie
@@ -40,24 +40,24 @@ enum-told-3 c = search needs
 of-string-requires : tie.Need-of-string-requires
 of-string-requires c κs = search needs
 
-top-requires : tie.Need-top-requires
-top-requires c κs = search needs
+refused-number-requires : tie.Need-refused-number-requires
+refused-number-requires c κs = search needs
 
 returns : tie.Need-returns
-unfolding numbered stateCode
+unfolding kinded stateCode
 returns c = rw (c .enum-told .given .1)
 
 returns-2 : tie.Need-returns-2
-unfolding numbered stateCode
+unfolding kinded stateCode
 returns-2 c = rw (c .before .s .given .1) (omega arith)
 
 returns-3 : tie.Need-returns-3
-unfolding numbered stateCode
+unfolding kinded stateCode
 returns-3 c = rw (c .enum-told2 .given .1)
 
 returns-4 : tie.Need-returns-4
-unfolding numbered stateCode
-returns-4 c = rw (c .top .ensures, c .before .of-string .ensures, c .before .before .enum-told3 .given .1)
+unfolding kinded stateCode
+returns-4 c = rw (c .refused-number .ensures, c .before .of-string .ensures, c .before .before .enum-told3 .given .1)
 
 pub string-number-spec : {M : Type 1} → statement M
 string-number-spec =
@@ -72,7 +72,7 @@ string-number-spec =
     mul-result-2
     enum-told-3
     of-string-requires
-    top-requires
+    refused-number-requires
     returns
     returns-2
     returns-3

@@ -11,11 +11,8 @@ use borrow.Author.Needs.{needs}
 use Rattle.show_lines.proofs.beyond_line.Statement.{statement}
 use Rattle.show_lines.proofs.beyond_line.Tie as tie
 
-open-requires : tie.Need-open-requires
-open-requires c κs = search needs
-
-enum-known-beyond : tie.Need-enum-known-beyond
-enum-known-beyond c = search needs
+enum-known-opened : tie.Need-enum-known-opened
+enum-known-opened c = search needs
 
 put-counts-requires : tie.Need-put-counts-requires
 put-counts-requires c κs = search needs
@@ -28,18 +25,17 @@ same-length c = search needs
 
 returns : tie.Need-returns
 unfolding beyondLine
-returns c = rw (← (ap saysOpened (sym (c .before .before .before .before .before .beyond .given .1)) ∙ c .before .before .before .before .before .before .before .«open» .ensures)) (puts-first (c .before .before .put-counts .ensures) (omega (arith, c .before .before .before .before .before .before .before .before .before .before .pre)))
+returns c = rw (← (ap saysOpened (sym (c .before .before .before .before .before .opened .given .1)) ∙ c .before .before .before .before .before .before .before .before .before .pre .1)) (puts-first (c .before .before .put-counts .ensures) (omega (arith, c .before .before .before .before .before .before .before .before .before .pre .0)))
 
 returns-2 : tie.Need-returns-2
 unfolding beyondLine
-returns-2 c = rw (← (ap saysOpened (sym (c .enum-told .given .1)) ∙ c .before .before .«open» .ensures)) (holds-none (now (c .before .before .before .before .before .args .out)))
+returns-2 c = rw (← (ap saysOpened (sym (c .enum-told .given .1)) ∙ c .before .before .before .before .pre .1)) (holds-none (now (c .before .before .before .before .args .out)))
 
 pub beyond-line-spec : {M : Type 1} → statement M
 beyond-line-spec =
     tie.close
     (tie.spec
-    open-requires
-    enum-known-beyond
+    enum-known-opened
     put-counts-requires
     enum-told
     same-length

@@ -11,8 +11,8 @@ use borrow.Author.Needs.{needs}
 use Rattle.show_lines.proofs.boolean_line.Statement.{statement}
 use Rattle.show_lines.proofs.boolean_line.Tie as tie
 
-boolean-requires : tie.Need-boolean-requires
-boolean-requires c κs = search needs
+boolean-if-opened-requires : tie.Need-boolean-if-opened-requires
+boolean-if-opened-requires c κs = search needs
 
 enum-told : tie.Need-enum-told
 enum-told c = search needs
@@ -43,28 +43,28 @@ same-length c = search needs
 
 returns : tie.Need-returns
 unfolding booleanLine
-returns c = rw (← (ap saysBoolean (sym (c .before .before .before .before .before .enum-told .given .1)) ∙ c .before .before .before .before .before .before .before .boolean .ensures)) (puts-first (c .before .before .put-named .ensures) (omega (arith, c .before .before .before .before .before .before .before .before .before .before .pre)))
+returns c = rw (← (ap saysBoolean (sym (c .before .before .before .before .before .enum-told .given .1)) ∙ c .before .before .before .before .before .before .before .boolean-if-opened .ensures)) (puts-first (c .before .before .put-named .ensures) (omega (arith, c .before .before .before .before .before .before .before .before .before .before .pre .0)))
 
 same-length-2 : tie.Need-same-length-2
 same-length-2 c = search needs
 
 returns-2 : tie.Need-returns-2
 unfolding booleanLine
-returns-2 c = rw (← (ap saysBoolean (sym (c .before .before .before .before .before .enum-told2 .given .1)) ∙ c .before .before .before .before .before .before .before .boolean .ensures)) (puts-first (c .before .before .put-named2 .ensures) (omega (arith, c .before .before .before .before .before .before .before .before .before .before .pre)))
+returns-2 c = rw (← (ap saysBoolean (sym (c .before .before .before .before .before .enum-told2 .given .1)) ∙ c .before .before .before .before .before .before .before .boolean-if-opened .ensures)) (puts-first (c .before .before .put-named2 .ensures) (omega (arith, c .before .before .before .before .before .before .before .before .before .before .pre .0)))
 
 returns-3 : tie.Need-returns-3
 unfolding booleanLine
-returns-3 c = rw (← (ap saysBoolean (sym (c .enum-told3 .given .1)) ∙ c .before .before .boolean .ensures)) (holds-none (now (c .before .before .before .before .before .args .out)))
+returns-3 c = rw (← (ap saysBoolean (sym (c .enum-told3 .given .1)) ∙ c .before .before .boolean-if-opened .ensures)) (holds-none (now (c .before .before .before .before .before .args .out)))
 
 returns-4 : tie.Need-returns-4
 unfolding booleanLine
-returns-4 c = rw (← (ap saysBoolean (sym (c .enum-told4 .given .1)) ∙ c .before .before .boolean .ensures)) (holds-none (now (c .before .before .before .before .before .args .out)))
+returns-4 c = rw (← (ap saysBoolean (sym (c .enum-told4 .given .1)) ∙ c .before .before .boolean-if-opened .ensures)) (holds-none (now (c .before .before .before .before .before .args .out)))
 
 pub boolean-line-spec : {M : Type 1} → statement M
 boolean-line-spec =
     tie.close
     (tie.spec
-    boolean-requires
+    boolean-if-opened-requires
     enum-told
     slice-aggregate-put-named
     put-named-requires

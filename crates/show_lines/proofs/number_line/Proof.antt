@@ -11,8 +11,8 @@ use borrow.Author.Needs.{needs}
 use Rattle.show_lines.proofs.number_line.Statement.{statement}
 use Rattle.show_lines.proofs.number_line.Tie as tie
 
-number-requires : tie.Need-number-requires
-number-requires c κs = search needs
+number-if-opened-requires : tie.Need-number-if-opened-requires
+number-if-opened-requires c κs = search needs
 
 enum-known-n : tie.Need-enum-known-n
 enum-known-n c = search needs
@@ -40,28 +40,28 @@ same-length c = search needs
 
 returns : tie.Need-returns
 unfolding numberLine
-returns c = rw (← (ap saysNumber (sym (c .before .before .before .before .before .n .given .1)) ∙ c .before .before .before .before .before .before .before .number .ensures)) (puts-first (c .before .before .put-value .ensures) (omega (arith, c .before .before .before .before .before .before .before .before .before .before .pre)))
+returns c = rw (← (ap saysNumber (sym (c .before .before .before .before .before .n .given .1)) ∙ c .before .before .before .before .before .before .before .number-if-opened .ensures)) (puts-first (c .before .before .put-value .ensures) (omega (arith, c .before .before .before .before .before .before .before .before .before .before .pre .0)))
 
 same-length-2 : tie.Need-same-length-2
 same-length-2 c = search needs
 
 returns-2 : tie.Need-returns-2
 unfolding numberLine
-returns-2 c = rw (← (ap saysNumber (sym (c .before .before .before .before .before .enum-told .given .1)) ∙ c .before .before .before .before .before .before .before .number .ensures)) (puts-first (c .before .before .put-named .ensures) (omega (arith, c .before .before .before .before .before .before .before .before .before .before .pre)))
+returns-2 c = rw (← (ap saysNumber (sym (c .before .before .before .before .before .enum-told .given .1)) ∙ c .before .before .before .before .before .before .before .number-if-opened .ensures)) (puts-first (c .before .before .put-named .ensures) (omega (arith, c .before .before .before .before .before .before .before .before .before .before .pre .0)))
 
 returns-3 : tie.Need-returns-3
 unfolding numberLine
-returns-3 c = rw (← (ap saysNumber (sym (c .enum-told2 .given .1)) ∙ c .before .before .number .ensures)) (holds-none (now (c .before .before .before .before .before .args .out)))
+returns-3 c = rw (← (ap saysNumber (sym (c .enum-told2 .given .1)) ∙ c .before .before .number-if-opened .ensures)) (holds-none (now (c .before .before .before .before .before .args .out)))
 
 returns-4 : tie.Need-returns-4
 unfolding numberLine
-returns-4 c = rw (← (ap saysNumber (sym (c .enum-told3 .given .1)) ∙ c .before .before .number .ensures)) (holds-none (now (c .before .before .before .before .before .args .out)))
+returns-4 c = rw (← (ap saysNumber (sym (c .enum-told3 .given .1)) ∙ c .before .before .number-if-opened .ensures)) (holds-none (now (c .before .before .before .before .before .args .out)))
 
 pub number-line-spec : {M : Type 1} → statement M
 number-line-spec =
     tie.close
     (tie.spec
-    number-requires
+    number-if-opened-requires
     enum-known-n
     put-value-requires
     enum-told

@@ -3,7 +3,7 @@
 use native.Mathlib.Omega.{arith}
 use denote.Ref.{now}
 use borrow.Author.Needs.{needs}
-use Rattle.ti_common.proofs.Laws.{digits-most}
+use Rattle.ti_files.proofs.Laws.{digits-most}
 use Rattle.show_lines.proofs.Laws.{number-puts}
 use Rattle.show_lines.proofs.put_number.Statement.{statement}
 use Rattle.show_lines.proofs.put_number.Tie as tie

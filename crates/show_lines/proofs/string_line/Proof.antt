@@ -12,17 +12,17 @@ use borrow.Author.Needs.{needs}
 use Rattle.show_lines.proofs.string_line.Statement.{statement}
 use Rattle.show_lines.proofs.string_line.Tie as tie
 
-string-requires : tie.Need-string-requires
-string-requires c κs = search needs
+string-if-opened-requires : tie.Need-string-if-opened-requires
+string-if-opened-requires c κs = search needs
 
 enum-known-p : tie.Need-enum-known-p
 enum-known-p c = search needs
 
 part-requires : tie.Need-part-requires
-part-requires c κs = string-inside _ _ (c .before .before .before .before .before .before .args .place) _ (ap saysString (sym (c .before .p .given .1)) ∙ c .before .before .before .string .ensures)
+part-requires c κs = string-inside _ _ (c .before .before .before .before .before .before .args .place) _ (ap saysString (sym (c .before .p .given .1)) ∙ c .before .before .before .string-if-opened .ensures)
 
 put-content-requires : tie.Need-put-content-requires
-put-content-requires c κs = omega (arith, c .before .before .before .before .before .before .before .before .pre, part-short (c .before .part .ensures))
+put-content-requires c κs = omega (arith, c .before .before .before .before .before .before .before .before .pre .0, part-short (c .before .part .ensures))
 
 enum-told : tie.Need-enum-told
 enum-told c = search needs
@@ -45,8 +45,8 @@ same-length c = search needs
 returns : tie.Need-returns
 unfolding stringLine
 returns c =
-    let e = ap saysString (sym (c .before .before .before .before .before .before .p .given .1)) ∙ c .before .before .before .before .before .before .before .before .string .ensures in
-    rw (← e, ← (c .before .before .before .before .part .ensures .bytes)) (puts-first (c .before .before .put-content .ensures) (omega (arith, c .before .before .before .before .before .before .before .before .before .before .before .pre, part-short (c .before .before .before .before .part .ensures))))
+    let e = ap saysString (sym (c .before .before .before .before .before .before .p .given .1)) ∙ c .before .before .before .before .before .before .before .before .string-if-opened .ensures in
+    rw (← e, ← (c .before .before .before .before .part .ensures .bytes)) (puts-first (c .before .before .put-content .ensures) (omega (arith, c .before .before .before .before .before .before .before .before .before .before .before .pre .0, part-short (c .before .before .before .before .part .ensures))))
 
 same-length-2 : tie.Need-same-length-2
 same-length-2 c = search needs
@@ -54,26 +54,26 @@ same-length-2 c = search needs
 returns-2 : tie.Need-returns-2
 unfolding stringLine
 returns-2 c =
-    let e = ap saysString (sym (c .before .before .before .before .before .enum-told .given .1)) ∙ c .before .before .before .before .before .before .before .string .ensures in
-    rw (← e) (puts-first (c .before .before .put-named .ensures) (omega (arith, c .before .before .before .before .before .before .before .before .before .before .pre)))
+    let e = ap saysString (sym (c .before .before .before .before .before .enum-told .given .1)) ∙ c .before .before .before .before .before .before .before .string-if-opened .ensures in
+    rw (← e) (puts-first (c .before .before .put-named .ensures) (omega (arith, c .before .before .before .before .before .before .before .before .before .before .pre .0)))
 
 returns-3 : tie.Need-returns-3
 unfolding stringLine
 returns-3 c =
-    let e = ap saysString (sym (c .enum-told2 .given .1)) ∙ c .before .before .string .ensures in
+    let e = ap saysString (sym (c .enum-told2 .given .1)) ∙ c .before .before .string-if-opened .ensures in
     rw (← e) (holds-none (now (c .before .before .before .before .before .args .out)))
 
 returns-4 : tie.Need-returns-4
 unfolding stringLine
 returns-4 c =
-    let e = ap saysString (sym (c .enum-told3 .given .1)) ∙ c .before .before .string .ensures in
+    let e = ap saysString (sym (c .enum-told3 .given .1)) ∙ c .before .before .string-if-opened .ensures in
     rw (← e) (holds-none (now (c .before .before .before .before .before .args .out)))
 
 pub string-line-spec : {M : Type 1} → statement M
 string-line-spec =
     tie.close
     (tie.spec
-    string-requires
+    string-if-opened-requires
     enum-known-p
     part-requires
     put-content-requires

@@ -1,6 +1,6 @@
 -- `terminfo_c::terminfo_string` meets its contract: the state's number.
 use mathlib.Core.Path.{ap, _∙_}
-use Rattle.c_numbers.specs.Numbers.{numbered, stringCode}
+use Rattle.c_numbers.specs.Numbers.{stringNumber}
 use Rattle.terminfo_c.proofs.Laws.{string-within}
 use borrow.Author.Needs.{needs}
 use Rattle.terminfo_c.proofs.terminfo_string.Statement.{statement}
@@ -13,7 +13,7 @@ string-number-requires : tie.Need-string-number-requires
 string-number-requires c κs = string-within _ _ _ (c .string .result) (c .string .ensures)
 
 returns : tie.Need-returns
-returns c = c .string-number .ensures ∙ ap (numbered stringCode) (c .before .string .ensures)
+returns c = c .string-number .ensures ∙ ap stringNumber (c .before .string .ensures)
 
 pub terminfo-string-spec : {M : Type 1} → statement M
 terminfo-string-spec = tie.close (tie.spec string-requires string-number-requires returns)

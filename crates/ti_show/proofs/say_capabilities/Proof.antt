@@ -6,10 +6,10 @@ use Rattle.ti_show.proofs.say_capabilities.Statement.{statement}
 use Rattle.ti_show.proofs.say_capabilities.Tie as tie
 
 abbrev Inv-loop : tie.InvT-loop
-Inv-loop file is-written₀ k₀ is-written k = k ≤ 167
+Inv-loop file opened is-written₀ k₀ is-written k = k ≤ 167
 
 abbrev μ-loop : tie.MeasureT-loop
-μ-loop file is-written₀ k₀ is-written k = 167 - k
+μ-loop file opened is-written₀ k₀ is-written k = 167 - k
 
 loop-holds : tie.Need-loop-holds Inv-loop μ-loop
 loop-holds c = search needs

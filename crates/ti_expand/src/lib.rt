@@ -1,0 +1,303 @@
+// `ti expand [-v] FILE CAPABILITY [NUMBER]..`: expands a capability of a compiled file with up to nine numbers,
+// through the library only. The output goes to standard output as it is; with -v, shown, and then the steps.
+// Proved: it is safe and ends; a word's number is that of number_words/specs, what is expanded is the file's string, a
+// refusal's number is that of expansion/specs; what stands for a byte is what shown/specs says. Assumed: what libc and
+// os say of C.
+ghost use mathlib.Core.Path.{_≡_};
+ghost use Prim.Native.Nat.{_≤_};
+ghost use Rattle.entry.specs.Asking.{opening};
+ghost use Rattle.entry.specs.Says.{saysOpened};
+ghost use Rattle.names.specs.Names.{firstEdition};
+use edition::Place;
+use entry::Opened;
+use expansion::Expansion;
+use names::FIRST_EDITION;
+use names::Found;
+use number_words::Parsed;
+use shown::CONTENT_LEAST;
+use terminfo::ExpandedString;
+use ti_common::FILE_ROOM;
+use ti_common::Status;
+use ti_common::complain;
+use ti_common::output::complain_quoted;
+use ti_common::say;
+use ti_common::say_number;
+use ti_common::words::Task;
+use ti_common::words::Words;
+
+mod opened;
+
+// Room for the output of any string: each of 1,000 items prints less than 255 bytes.
+const OUTPUT_ROOM: usize = 255000;
+
+// The most operands: the file, the capability, nine numbers.
+const OPERANDS_MOST: usize = 11;
+
+fn describe(words: Words) -> Status {
+    ti_common::words::describe(
+        words,
+        b"expand [-v] FILE CAPABILITY [NUMBER]..",
+        b"Expands a string capability of a compiled file with up to nine numbers, 0 for those not given, and\n\
+            writes the bytes. With -v they are shown as `ti show` shows them, and then the steps.\n",
+    )
+}
+
+fn misuse() -> Status {
+    ti_common::words::misuse(b"expand [-v] FILE CAPABILITY [NUMBER]..")
+}
+
+// What the word at a place gives as a number; 0 where there is none.
+fn parsed_at(i: usize) -> Parsed {
+    if os::arg_count() <= i {
+        return Parsed::Value(0);
+    }
+    let mut word = io::buffer();
+    let n = os::arg(i, &mut word);
+    if os::errno() != 0 {
+        return Parsed::Wrong;
+    }
+    number_words::parse(&word[..n])
+}
+
+fn is_number(i: usize) -> bool {
+    match parsed_at(i) {
+        Parsed::Value(_) => true,
+        Parsed::Wrong => false,
+    }
+}
+
+fn number_at(i: usize) -> i32 {
+    match parsed_at(i) {
+        Parsed::Value(v) => v,
+        Parsed::Wrong => 0,
+    }
+}
+
+// Whether three words from a place on are numbers.
+fn are_three(first: usize) -> bool
+    requires { ⌜ first ≤ 70000 ⌝ }
+{
+    is_number(first) & is_number(first + 1) & is_number(first + 2)
+}
+
+// The nine numbers that the words from a place on give.
+fn numbers_from(first: usize) -> [i32; 9]
+    requires { ⌜ first ≤ 70000 ⌝ }
+{
+    [
+        number_at(first),
+        number_at(first + 1),
+        number_at(first + 2),
+        number_at(first + 3),
+        number_at(first + 4),
+        number_at(first + 5),
+        number_at(first + 6),
+        number_at(first + 7),
+        number_at(first + 8),
+    ]
+}
+
+// Writes the output.
+fn say_output(output: &[u8], steps: usize, is_verbose: bool) -> Status {
+    if is_verbose {
+        let shown = ti_common::output::say_shown(output, CONTENT_LEAST) & say(b"\n");
+        return ti_common::written(shown & say_number(steps) & say(b" steps\n"));
+    }
+    ti_common::written(say(output))
+}
+
+// Begins a message about a string of the file.
+fn begin(path: &[u8], name: &[u8]) {
+    ti_refusals::begin(path);
+    complain(b": ");
+    complain(name);
+}
+
+// Says why a string is refused, with the byte.
+fn refuse_at(path: &[u8], name: &[u8], sentence: &[u8], number: u8, place: usize) -> Status {
+    begin(path, name);
+    complain(sentence);
+    ti_refusals::end_at(number, place)
+}
+
+// Says why a string is refused.
+fn refuse(path: &[u8], name: &[u8], sentence: &[u8], number: u8) -> Status {
+    begin(path, name);
+    complain(sentence);
+    ti_refusals::end(number)
+}
+
+// Writes what expanding gave, or says the refusal.
+fn say_expansion(
+    path: &[u8],
+    name: &[u8],
+    out: &[u8],
+    answer: Expansion,
+    is_verbose: bool,
+) -> Status {
+    let number = refusal_numbers::of_expansion(answer);
+    match answer {
+        Expansion::Done { length, steps } => {
+            let k = ti_common::part(length, out);
+            say_output(&out[..k], steps, is_verbose)
+        }
+        Expansion::Place => refuse(path, name, b": the place is beyond the edition", number),
+        Expansion::Length => refuse(
+            path,
+            name,
+            b": the string is longer than 1,000 bytes",
+            number,
+        ),
+        Expansion::Malformed(i) => refuse_at(
+            path,
+            name,
+            b": malformed item, or a conditional that is not closed",
+            number,
+            i,
+        ),
+        Expansion::Empty(i) => refuse_at(
+            path,
+            name,
+            b": an item takes a value from the empty stack",
+            number,
+            i,
+        ),
+        Expansion::Full(i) => refuse_at(
+            path,
+            name,
+            b": an item puts a value on the full stack of 20",
+            number,
+            i,
+        ),
+        Expansion::Room(n) => ti_refusals::refuse_room(path, n, number),
+    }
+}
+
+// Says that the file has no such string.
+fn refuse_state(path: &[u8], name: &[u8], state: &[u8]) -> Status {
+    begin(path, name);
+    complain(state);
+    Status::Refused
+}
+
+// Expands the string at a place, if the file has it.
+fn expand_string(
+    path: &[u8],
+    file: &[u8],
+    opened: Opened,
+    name: &[u8],
+    place: Place,
+    values: [i32; 9],
+    is_verbose: bool,
+) -> Status
+    requires { ⌜ saysOpened opened ≡ opening firstEdition (now file) ⌝ }
+{
+    let mut out = [0u8; OUTPUT_ROOM];
+    match opened::expand_opened(file, opened, place, values, &mut out, 0) {
+        ExpandedString::Absent => refuse_state(path, name, b" is absent\n"),
+        ExpandedString::Cancelled => refuse_state(path, name, b" is cancelled\n"),
+        ExpandedString::Expansion(answer) => say_expansion(path, name, &out, answer, is_verbose),
+    }
+}
+
+// Says that a capability is no string.
+fn refuse_kind(path: &[u8], name: &[u8], kind: &[u8], number: u8) -> Status {
+    ti_refusals::begin(path);
+    complain(b": ");
+    complain_quoted(name);
+    complain(kind);
+    complain(b", not a string");
+    ti_refusals::end(number)
+}
+
+// Expands the capability that has the name, if it is a string.
+fn expand_named(
+    path: &[u8],
+    file: &[u8],
+    opened: Opened,
+    name: &[u8],
+    values: [i32; 9],
+    is_verbose: bool,
+) -> Status
+    requires { ⌜ saysOpened opened ≡ opening firstEdition (now file) ⌝ }
+{
+    let found = lookup::find(name, FIRST_EDITION);
+    let number = refusal_numbers::of_found_string(found);
+    match found {
+        Found::String(place) => expand_string(path, file, opened, name, place, values, is_verbose),
+        Found::Boolean(_) => refuse_kind(path, name, b" is a boolean", number),
+        Found::Number(_) => refuse_kind(path, name, b" is a number", number),
+        Found::Unknown => ti_refusals::refuse_unknown(path, name, number),
+    }
+}
+
+// Opens the file and expands.
+fn expand_file(
+    path: &[u8],
+    file: &[u8],
+    name: &[u8],
+    values: [i32; 9],
+    is_verbose: bool,
+) -> Status {
+    let opened = ti_refusals::open(path, file);
+    match opened {
+        Opened::Entry(_, _) => expand_named(path, file, opened, name, values, is_verbose),
+        Opened::Refused(_) => Status::Refused,
+    }
+}
+
+// Reads the file that is named and expands.
+fn expand_from(path: &[u8], name: &[u8], values: [i32; 9], is_verbose: bool) -> Status {
+    let mut file = [0u8; FILE_ROOM];
+    let got = ti_files::input::read_file(path, &mut file);
+    if !got.ok {
+        return Status::Failed;
+    }
+    let k = ti_common::part(got.length, &file);
+    expand_file(path, &file[..k], name, values, is_verbose)
+}
+
+// Takes the file, the capability and the numbers.
+fn expand_operands(operands: Words, is_verbose: bool) -> Status {
+    let first = operands.first as usize;
+    if !(are_three(first + 2) & are_three(first + 5) & are_three(first + 8)) {
+        complain(b"ti: a number is decimal, from -2147483648 to 2147483647\n");
+        return Status::Failed;
+    }
+    let values = numbers_from(first + 2);
+    let mut path = io::buffer();
+    let mut name = io::buffer();
+    let named = ti_common::words::operand(operands, 0, &mut path);
+    let asked = ti_common::words::operand(operands, 1, &mut name);
+    if !(named.ok & asked.ok) {
+        return Status::Failed;
+    }
+    let m = named.length;
+    let n = asked.length;
+    expand_from(&path[..m], &name[..n], values, is_verbose)
+}
+
+fn expand_words(words: Words) -> Status {
+    let taken = ti_common::words::take_options(words, b'v');
+    let operands = taken.words;
+    if !taken.ok {
+        return misuse();
+    }
+    let n = ti_common::words::count(operands);
+    if n < 2 {
+        return misuse();
+    }
+    if OPERANDS_MOST < n {
+        return misuse();
+    }
+    expand_operands(operands, taken.is_set)
+}
+
+pub fn run(words: Words) -> Status {
+    let task = words.task;
+    match task {
+        Task::Run => expand_words(words),
+        Task::Usage => describe(words),
+        Task::Help => describe(words),
+    }
+}

@@ -1,0 +1,136 @@
+//! The refusals, each with its number and what it gives.
+
+use std::fmt;
+
+/// Why a call was refused. A place is counted in bytes from 0.
+#[derive(Clone, Copy, Debug, PartialEq, Eq)]
+pub enum Refusal {
+    /// 1: a file, a text or a string to expand has a wrong length.
+    Length,
+    /// 2: a file does not begin with the magic number 282.
+    Magic,
+    /// 3: a size in a file's header is out of range, the edition is too large, or states are too few.
+    Header,
+    /// 4: the names hold a NUL, lack the closing one, or have a wrong length.
+    Names,
+    /// 5: a boolean byte is none of 0, 1 and 254, or the pad byte is not 0.
+    Boolean,
+    /// 6: a number slot is out of range.
+    Number,
+    /// 7: a string slot is no offset of a string in the table.
+    String,
+    /// 8: there is too little room for so many bytes.
+    Room { needed: usize },
+    /// 9: the file to be written is longer than 4,096 bytes.
+    Size,
+    /// 10: the text is malformed.
+    Malformed { at: usize },
+    /// 11: a field's name is unknown, or of another kind.
+    Unknown { at: usize },
+    /// 12: a field is `use=`.
+    Use { at: usize },
+    /// 13: past a limit.
+    Limit { at: usize },
+    /// 14: the string to expand is malformed.
+    Expansion { at: usize },
+    /// 15: an item takes a value from the empty stack.
+    StackEmpty { at: usize },
+    /// 16: an item puts a value on the full stack.
+    StackFull { at: usize },
+    /// 17: the place is beyond the edition.
+    Place,
+}
+
+impl Refusal {
+    pub(crate) fn of(number: u8, given: usize) -> Refusal {
+        match number {
+            1 => Refusal::Length,
+            2 => Refusal::Magic,
+            3 => Refusal::Header,
+            4 => Refusal::Names,
+            5 => Refusal::Boolean,
+            6 => Refusal::Number,
+            7 => Refusal::String,
+            8 => Refusal::Room { needed: given },
+            9 => Refusal::Size,
+            10 => Refusal::Malformed { at: given },
+            11 => Refusal::Unknown { at: given },
+            12 => Refusal::Use { at: given },
+            13 => Refusal::Limit { at: given },
+            14 => Refusal::Expansion { at: given },
+            15 => Refusal::StackEmpty { at: given },
+            16 => Refusal::StackFull { at: given },
+            17 => Refusal::Place,
+            _ => unreachable!("the library gives no refusal {number}"),
+        }
+    }
+
+    /// The number under which the library refuses.
+    pub fn number(self) -> u8 {
+        match self {
+            Refusal::Length => 1,
+            Refusal::Magic => 2,
+            Refusal::Header => 3,
+            Refusal::Names => 4,
+            Refusal::Boolean => 5,
+            Refusal::Number => 6,
+            Refusal::String => 7,
+            Refusal::Room { .. } => 8,
+            Refusal::Size => 9,
+            Refusal::Malformed { .. } => 10,
+            Refusal::Unknown { .. } => 11,
+            Refusal::Use { .. } => 12,
+            Refusal::Limit { .. } => 13,
+            Refusal::Expansion { .. } => 14,
+            Refusal::StackEmpty { .. } => 15,
+            Refusal::StackFull { .. } => 16,
+            Refusal::Place => 17,
+        }
+    }
+
+    /// The place that is given with refusals 10 to 16.
+    pub fn at(self) -> Option<usize> {
+        match self {
+            Refusal::Malformed { at }
+            | Refusal::Unknown { at }
+            | Refusal::Use { at }
+            | Refusal::Limit { at }
+            | Refusal::Expansion { at }
+            | Refusal::StackEmpty { at }
+            | Refusal::StackFull { at } => Some(at),
+            _ => None,
+        }
+    }
+}
+
+impl fmt::Display for Refusal {
+    fn fmt(&self, f: &mut fmt::Formatter<'_>) -> fmt::Result {
+        let sentence = match self {
+            Refusal::Length => "wrong length",
+            Refusal::Magic => "the file does not begin with 282",
+            Refusal::Header => "a size in the header is out of range, or states are too few",
+            Refusal::Names => "wrong names",
+            Refusal::Boolean => "wrong boolean or pad byte",
+            Refusal::Number => "wrong number slot",
+            Refusal::String => "wrong string slot",
+            Refusal::Room { .. } => "too little room",
+            Refusal::Size => "the file would be longer than 4,096 bytes",
+            Refusal::Malformed { .. } => "malformed text",
+            Refusal::Unknown { .. } => "unknown capability, or one of another kind",
+            Refusal::Use { .. } => "use= is not covered",
+            Refusal::Limit { .. } => "past a limit",
+            Refusal::Expansion { .. } => "malformed string to expand",
+            Refusal::StackEmpty { .. } => "an item takes a value from the empty stack",
+            Refusal::StackFull { .. } => "an item puts a value on the full stack",
+            Refusal::Place => "the place is beyond the edition",
+        };
+        write!(f, "{sentence} (refusal {}", self.number())?;
+        match (self, self.at()) {
+            (_, Some(at)) => write!(f, ", byte {at})"),
+            (Refusal::Room { needed }, _) => write!(f, ", {needed} bytes are needed)"),
+            _ => write!(f, ")"),
+        }
+    }
+}
+
+impl std::error::Error for Refusal {}

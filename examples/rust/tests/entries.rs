@@ -1,0 +1,202 @@
+//! Document 01's examples and its three states, through the wrapper.
+use chulindafe::*;
+
+const ACT4: &[u8] = include_bytes!("../../act4.ti");
+const CONSOLE: &[u8] = include_bytes!("../../console.ti");
+const ONE_WAY: &[u8] = include_bytes!("../../one-way.ti");
+
+fn boolean(name: &str) -> BooleanPlace {
+    match find(name.as_bytes()) {
+        Some(Capability::Boolean(place)) => place,
+        other => panic!("{name}: {other:?}"),
+    }
+}
+
+fn number(name: &str) -> NumberPlace {
+    match find(name.as_bytes()) {
+        Some(Capability::Number(place)) => place,
+        other => panic!("{name}: {other:?}"),
+    }
+}
+
+fn string(name: &str) -> StringPlace {
+    match find(name.as_bytes()) {
+        Some(Capability::String(place)) => place,
+        other => panic!("{name}: {other:?}"),
+    }
+}
+
+fn values(first: &[i32]) -> [i32; 9] {
+    let mut all = [0; 9];
+    all[..first.len()].copy_from_slice(first);
+    all
+}
+
+fn expanded(text: &[u8], arguments: &[i32]) -> Result<(Vec<u8>, usize), Refusal> {
+    let done = expand(text, values(arguments), &mut Lasting::default())?;
+    Ok((done.bytes, done.steps))
+}
+
+#[test]
+fn names_are_those_of_the_lists() {
+    assert_eq!(boolean("bw"), BooleanPlace(0));
+    assert_eq!(boolean("xon"), BooleanPlace(20));
+    assert_eq!(number("wsl"), NumberPlace(7));
+    assert_eq!(string("hu"), StringPlace(137));
+    assert_eq!(Capability::String(StringPlace(10)).name().as_deref(), Some(&b"cup"[..]));
+    assert_eq!(Capability::String(StringPlace(138)).name(), None);
+    assert_eq!(find(b"wrong"), None);
+    assert_eq!(find(b""), None);
+}
+
+#[test]
+fn act4_is_compiled_and_read() -> Result<(), Refusal> {
+    let file = compile(ACT4)?;
+    assert_eq!(file.len(), 392);
+    let entry = Entry::open(&file, Edition::FIRST)?;
+    assert_eq!(entry.names(), b"microterm|act4|microterm act iv");
+    assert_eq!(entry.edition(), Edition::FIRST);
+    assert_eq!(entry.beyond(), Edition { booleans: 0, numbers: 0, strings: 0 });
+    assert_eq!(entry.boolean(boolean("am"))?, State::Present(()));
+    assert_eq!(entry.boolean(boolean("bw"))?, State::Absent);
+    assert_eq!(entry.number(number("cols"))?, State::Present(80));
+    assert_eq!(entry.number(number("it"))?, State::Absent);
+    assert_eq!(entry.string(string("cup"))?, State::Present(&b"\x14%p1%c%p2%c"[..]));
+    assert_eq!(entry.string(string("hu"))?, State::Absent);
+    Ok(())
+}
+
+#[test]
+fn a_place_beyond_the_edition_is_refused() -> Result<(), Refusal> {
+    let file = compile(ACT4)?;
+    let edition = Edition { booleans: 2, numbers: 1, strings: 11 };
+    let entry = Entry::open(&file, edition)?;
+    assert_eq!(entry.beyond(), Edition { booleans: 19, numbers: 7, strings: 127 });
+    assert_eq!(entry.number(number("cols"))?, State::Present(80));
+    assert_eq!(entry.boolean(BooleanPlace(2)), Err(Refusal::Place));
+    assert_eq!(entry.number(number("lines")), Err(Refusal::Place));
+    assert_eq!(entry.string(StringPlace(usize::MAX)), Err(Refusal::Place));
+    Ok(())
+}
+
+#[test]
+fn files_are_refused() -> Result<(), Refusal> {
+    let file = compile(ACT4)?;
+    let opened = |file: &[u8]| Entry::open(file, Edition::FIRST).map(|_| ());
+    let with = |place: usize, byte| {
+        let mut file = file.clone();
+        file[place] = byte;
+        opened(&file)
+    };
+    assert_eq!(opened(&[]), Err(Refusal::Length));
+    assert_eq!(opened(&file[..100]), Err(Refusal::Length));
+    assert_eq!(with(0, 0), Err(Refusal::Magic));
+    assert_eq!(with(2, 0), Err(Refusal::Header));
+    assert_eq!(with(12, 0), Err(Refusal::Names));
+    assert_eq!(with(44, 2), Err(Refusal::Boolean));
+    assert_eq!(with(67, 128), Err(Refusal::Number));
+    assert_eq!(with(83, 127), Err(Refusal::String));
+    let large = Edition { booleans: 65, ..Edition::FIRST };
+    assert_eq!(Entry::open(&file, large).map(|_| ()), Err(Refusal::Header));
+    Ok(())
+}
+
+#[test]
+fn texts_are_refused_with_their_place() {
+    assert_eq!(compile(b""), Err(Refusal::Malformed { at: 0 }));
+    assert_eq!(compile(b"a|b,\n\tam, cols#80, wrong,\n"), Err(Refusal::Unknown { at: 19 }));
+    assert_eq!(compile(b"a|b,\n\tuse=c,\n"), Err(Refusal::Use { at: 6 }));
+    assert_eq!(compile(b"a|b,\n\tlm#32768,\n"), Err(Refusal::Limit { at: 6 }));
+    assert_eq!(compile(&[b' '; 16_385]), Err(Refusal::Length));
+}
+
+#[test]
+fn a_cancelled_state_stays_cancelled_in_a_merge() -> Result<(), Refusal> {
+    let (first, second) = (compile(ONE_WAY)?, compile(CONSOLE)?);
+    let ri = string("ri");
+    let state = |file: &[u8]| -> Result<State<Vec<u8>>, Refusal> {
+        Ok(match Entry::open(file, Edition::FIRST)?.string(ri)? {
+            State::Absent => State::Absent,
+            State::Cancelled => State::Cancelled,
+            State::Present(bytes) => State::Present(bytes.to_vec()),
+        })
+    };
+    assert_eq!(state(&second)?, State::Present(b"\x1bM".to_vec()));
+    assert_eq!(state(&merge(&first, &second, Edition::FIRST)?)?, State::Cancelled);
+    assert_eq!(state(&merge(&second, &first, Edition::FIRST)?)?, State::Present(b"\x1bM".to_vec()));
+    assert_eq!(merge(&first, &[], Edition::FIRST), Err(Refusal::Length));
+    Ok(())
+}
+
+#[test]
+fn what_is_written_is_read() -> Result<(), Refusal> {
+    let edition = Edition { booleans: 3, numbers: 3, strings: 4 };
+    let booleans = [State::Absent, State::Present(()), State::Cancelled];
+    let numbers = [State::Present(32_767), State::Cancelled, State::Absent];
+    let strings =
+        [State::Present(&b""[..]), State::Cancelled, State::Present(b"\r"), State::Absent];
+    let file = write(edition, b"a|b", &booleans, &numbers, &strings)?;
+    let entry = Entry::open(&file, edition)?;
+    assert_eq!(entry.names(), b"a|b");
+    for (place, state) in booleans.into_iter().enumerate() {
+        assert_eq!(entry.boolean(BooleanPlace(place))?, state);
+    }
+    for (place, state) in numbers.into_iter().enumerate() {
+        assert_eq!(entry.number(NumberPlace(place))?, state);
+    }
+    for (place, state) in strings.into_iter().enumerate() {
+        assert_eq!(entry.string(StringPlace(place))?, state);
+    }
+    let refused = |names: &[u8], number, string: &[u8]| {
+        write(
+            Edition { booleans: 0, numbers: 1, strings: 1 },
+            names,
+            &[],
+            &[State::Present(number)],
+            &[State::Present(string)],
+        )
+    };
+    assert_eq!(refused(b"", 0, b""), Err(Refusal::Names));
+    assert_eq!(refused(b"a", 32_768, b""), Err(Refusal::Limit { at: 0 }));
+    assert_eq!(refused(b"a", 0, b"\0"), Err(Refusal::Limit { at: 0 }));
+    assert_eq!(write(edition, b"a", &booleans[1..], &numbers, &strings), Err(Refusal::Header));
+    Ok(())
+}
+
+#[test]
+fn strings_are_expanded() {
+    assert_eq!(expanded(b"\x1b=%p1%' '%+%c%p2%' '%+%c", &[3, 12]), Ok((b"\x1b=#,".to_vec(), 10)));
+    assert_eq!(expanded(b"%p1%03d", &[-5]), Ok((b"-05".to_vec(), 2)));
+    assert_eq!(expanded(b"\x1b[%i%p1%d;%p2%dH", &[0, 0]).unwrap().0, b"\x1b[1;1H");
+    assert_eq!(expanded(b"%p1%99d", &[1]).unwrap().0.len(), 99);
+    assert_eq!(expanded(b"", &[]), Ok((Vec::new(), 0)));
+    assert_eq!(expanded(b"%?%p2%|%t;4%;", &[]), Err(Refusal::StackEmpty { at: 5 }));
+    assert_eq!(expanded(&b"%p1".repeat(21), &[]), Err(Refusal::StackFull { at: 60 }));
+    assert_eq!(expanded(b"%?", &[]), Err(Refusal::Expansion { at: 2 }));
+    assert_eq!(expanded(&[b'a'; 1001], &[]), Err(Refusal::Length));
+}
+
+#[test]
+fn lasting_variables_last_unless_refused() -> Result<(), Refusal> {
+    let mut lasting = Lasting::default();
+    expand(b"%p1%PZ", values(&[7]), &mut lasting)?;
+    assert_eq!((lasting.get(b'Z'), lasting.get(b'A'), lasting.get(b'a')), (Some(7), Some(0), None));
+    assert_eq!(expand(b"%gZ%99d", values(&[]), &mut lasting)?.bytes.last(), Some(&b'7'));
+    let before = lasting;
+    assert_eq!(expand(b"%p1%PZ%d", values(&[9]), &mut lasting), Err(Refusal::StackEmpty { at: 6 }));
+    assert_eq!(lasting, before);
+    Ok(())
+}
+
+#[test]
+fn a_refusal_says_what_it_is() {
+    assert_eq!(
+        Refusal::Unknown { at: 19 }.to_string(),
+        "unknown capability, or one of another kind (refusal 11, byte 19)"
+    );
+    assert_eq!(
+        Refusal::Room { needed: 5 }.to_string(),
+        "too little room (refusal 8, 5 bytes are needed)"
+    );
+    assert_eq!((Refusal::Place.number(), Refusal::Place.at()), (17, None));
+}
