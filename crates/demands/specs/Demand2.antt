@@ -102,8 +102,7 @@ beyondPast e r =
     record {
       booleans = e .booleans - r .booleans;
       numbers = e .numbers - r .numbers;
-      strings = e .strings - r
-          .strings;
+      strings = e .strings - r .strings;
     }
 
 -- "Opening also reports, per list, how many slots lie beyond the reader's edition"

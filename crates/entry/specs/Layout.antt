@@ -20,8 +20,7 @@ sizesOf f =
       booleans = shortIn f 2;
       numbers = shortIn f 3;
       strings = shortIn f 4;
-      table
-          = shortIn f 5;
+      table = shortIn f 5;
     }
 
 -- "Then names with a closing NUL; one byte per boolean"
@@ -65,6 +64,5 @@ beyondOf e s =
     record {
       booleans = s .booleans - e .booleans;
       numbers = s .numbers - e .numbers;
-      strings = s .strings - e
-          .strings;
+      strings = s .strings - e .strings;
     }

@@ -124,8 +124,7 @@ passed-none n =
       from = omega arith;
       within = omega arith;
       name = λ j a b. absurd (let z : ⊥ = omega arith in z);
-      rest
-          = refl;
+      rest = refl;
     }
 
 module _ (n : List ℕ) (start i : ℕ) (p : Passed n start i) where

@@ -23,8 +23,7 @@ sizesWith e names table =
       booleans = e .booleans;
       numbers = e .numbers;
       strings = e .strings;
-      table
-          = table;
+      table = table;
     }
 
 -- the header's sizes, from kinds and lengths alone
