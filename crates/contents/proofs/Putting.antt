@@ -1,7 +1,6 @@
 -- Putting a string's bytes: what holds at each turn, and the turns.
 -- Assumes nothing.
 use mathlib.Core.Path.{_≡_, refl, sym, ap, _∙_, subst}
-use mathlib.Core.Bool.{Bool, true, false}
 use mathlib.Core.List.{List, [], _∷_, _++_}
 use Prim.Native.Nat.{ℕ, _+_, _≤_, _<_}
 use native.Mathlib.Omega.{arith}
@@ -14,8 +13,8 @@ use Rattle.text.specs.declared.StringItem.the-variants.{End, Byte, Removed, Mal
 use Rattle.text.specs.Strings.{stringItemAt, storedByte, Reading, Read, malformed, readFrom, readAt, readBytes}
 use Rattle.text_laws.specs.Reads.{item-past, read-end, read-malformed, read-byte, read-removed, read-grows, read-all}
 use Rattle.contents.specs.Fits.{Fits}
-use Rattle.contents.specs.Usual.{isSpecial, isEscape}
-use Rattle.contents.proofs.UsualLaws.{item-escape, item-itself, itself-stored}
+use Rattle.contents.specs.declared.Usual.the-variants.{Itself}
+use Rattle.contents.specs.Usual.{Tells}
 
 -- a string that starts at from has been read to i, and its bytes so far stand in b, which was b₀, from at to p
 pub record Filled (t : List ℕ) (from i : ℕ) (b₀ b : List ℕ) (at p : ℕ) : Type 0 where
@@ -92,11 +91,6 @@ module _ {t : List ℕ} {from i : ℕ} {b₀ b : List ℕ} {at p size : ℕ} (f 
           put-store b₀ b at p (storedByte v) (f .done) (f .done ++ (storedByte v ∷ [])) (f .held) (f .place) refl (omega arith);
     }
 
-    pub filled-itself : isSpecial (getD t i 0) ≡ false → Filled t from (i + 1) b₀ (set b p (getD t i 0)) at (p + 1)
-    filled-itself h =
-        subst (λ (v : ℕ). Filled t from (i + 1) b₀ (set b p v) at (p + 1)) (itself-stored t i filled-malformed filled-before h)
-        (filled-byte (getD t i 0) (i + 1) (item-itself t i filled-malformed filled-before h))
-
-    pub filled-escape : isEscape t i ≡ true → Filled t from (i + 2) b₀ (set b p 27) at (p + 1)
-    unfolding storedByte
-    filled-escape h = filled-byte 27 (i + 2) (item-escape t i h)
+    pub filled-itself : Tells Itself t i → Filled t from (i + 1) b₀ (set b p (getD t i 0)) at (p + 1)
+    filled-itself u =
+        subst (λ (v : ℕ). Filled t from (i + 1) b₀ (set b p v) at (p + 1)) (u .1) (filled-byte (getD t i 0) (i + 1) (u .0))

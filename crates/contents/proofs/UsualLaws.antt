@@ -1,67 +1,121 @@
 -- What is usual is read by its short way as its definition says.
 -- Assumes nothing.
-use mathlib.Core.Path.{_≡_, refl, sym, ap}
-use mathlib.Core.Bool.{Bool, true, false, _||_, not}
+use mathlib.Core.Path.{_≡_, sym, ap, _∙_, subst}
+use mathlib.Core.Bool.{Bool, true, _&&_}
 use mathlib.Core.List.{List}
-use Prim.Native.Nat.{ℕ, _+_}
+use Prim.Native.Nat.{ℕ, _+_, _-_, _*_, _%_, _≤_}
 use native.Mathlib.Omega.{arith}
 use lib.Dec.{eqb, leb}
 use lib.ListN.{getD}
-use borrow.Author.Tests.{eqb-true, leb-true, ne-eqb}
-use Rattle.base.specs.If.{if_then_else_}
-use Rattle.base.proofs.IfLaws.{true-false, and-left, and-right, neither, not-true}
-use Rattle.text.specs.declared.StringItem.the-variants.{End, Byte, Malformed}
+use borrow.Author.Tests.{eqb-true, leb-true, le-leb, lt-ltb, ne-eqb}
+use Rattle.base.proofs.IfLaws.{true-false, and-left, and-right}
+use Rattle.text.specs.declared.StringItem.the-variants as S
 use Rattle.text.specs.Bytes.{between, digitOf}
-use Rattle.text.specs.Strings.{letterOf, escapeAt, stringItemAt, storedByte}
-use Rattle.contents.specs.Usual.{isItself, isSpecial, isEscape}
+use Rattle.text.specs.Strings.{letterOf, octalOf, escapeAt, isControl, caretAt, stringItemAt, storedByte}
+use Rattle.contents.specs.declared.Usual.{Usual}
+use Rattle.contents.specs.declared.Usual.the-variants.{Itself, End, Pair, Octal}
+use Rattle.contents.specs.Usual.{isEscape, isControlAt, isOctal, pairOf, octalValue, Tells}
 
--- ---- items
+-- what is told, where the code has found which of them it is
+pub as-told : {u v : Usual} (t : List ℕ) (i : ℕ) → u ≡ v → Tells u t i → Tells v t i
+as-told t i e h = subst (λ (w : Usual). Tells w t i) e h
 
-pub item-comma : (t : List ℕ) (i : ℕ) → getD t i 0 ≡ 44 → stringItemAt t i ≡ End
-unfolding stringItemAt
-item-comma t i e = rw e
+both : (a b : Bool) → (a && b) ≡ true → (a ≡ true) × (b ≡ true)
+both a b h = (and-left a b h, and-right a b h)
 
-pub item-plain : (t : List ℕ) (i : ℕ) → isItself (getD t i 0) ≡ true → stringItemAt t i ≡ Byte (getD t i 0) (i + 1)
-unfolding stringItemAt isItself
-item-plain t i h =
-    let b = getD t i 0 in
-    let range = and-left (between 32 126 b) (not (eqb b 44 || (eqb b 92 || eqb b 94))) h in
-    let n = neither (eqb b 44) (eqb b 92 || eqb b 94) (not-true _ (and-right (between 32 126 b) (not (eqb b 44 || (eqb b 92 || eqb b 94))) h)) in
-    let m = neither (eqb b 92) (eqb b 94) (n .1) in
-    let low = leb-true 32 b (and-left (leb 32 b) (leb b 126) range) in
-    rw (n .0, m .0, m .1, ne-eqb b 10 (λ e. omega arith), range)
+-- ---- digits
 
-pub item-escape : (t : List ℕ) (i : ℕ) → isEscape t i ≡ true → stringItemAt t i ≡ Byte 27 (i + 2)
-unfolding stringItemAt escapeAt isEscape digitOf letterOf
-item-escape t i h =
-    let e = eqb-true (getD t i 0) 92 (and-left (eqb (getD t i 0) 92) (eqb (getD t (i + 1) 0) 69) h) in
-    let f = eqb-true (getD t (i + 1) 0) 69 (and-right (eqb (getD t i 0) 92) (eqb (getD t (i + 1) 0) 69) h) in
-    rw (e, f) (ap (Byte 27) (omega arith))
+-- the answer of is_digit for a byte of the text
+pub digit-told : {r : Bool} {x y : ℕ} (most : ℕ) → r ≡ between 48 most x → x ≡ y → between 48 most y ≡ r
+digit-told most p q = sym (p ∙ ap (between 48 most) q)
 
--- a byte of a string that is right, before its comma
-module _ (t : List ℕ) (i : ℕ) (right : stringItemAt t i ≡ Malformed → ⊥) (before : stringItemAt t i ≡ End → ⊥) (h : isSpecial (getD t i 0) ≡ false) where
-  others : (eqb (getD t i 0) 92 ≡ false) × (eqb (getD t i 0) 94 ≡ false) × (eqb (getD t i 0) 10 ≡ false)
-  unfolding isSpecial
-  others =
-      let n = neither (eqb (getD t i 0) 92) (eqb (getD t i 0) 94 || eqb (getD t i 0) 10) h in
-      let m = neither (eqb (getD t i 0) 94) (eqb (getD t i 0) 10) (n .1) in
-      (n .0, m .0, m .1)
+digit-value : (most b : ℕ) → most ≤ 57 → between 48 most b ≡ true → (digitOf b ≡ b - 48) × (48 ≤ b) × (b ≤ most)
+unfolding digitOf
+digit-value most b l h =
+    let s = both (leb 48 b) (leb b most) h in
+    let low = leb-true 48 b (s .0) in
+    let high = leb-true b most (s .1) in
+    (rw (le-leb 48 b low, le-leb b 57 (omega arith)), low, high)
 
-  pub item-itself : stringItemAt t i ≡ Byte (getD t i 0) (i + 1)
+-- three digits behind a backslash
+octal-three : (t : List ℕ) (j k l m : ℕ) → j + 1 ≡ k → j + 2 ≡ l → j + 3 ≡ m → between 48 51 (getD t j 0) ≡ true
+    → between 48 55 (getD t k 0) ≡ true → between 48 55 (getD t l 0) ≡ true
+    → escapeAt t j ≡ S.Byte (getD t j 0 % 4 * 64 + getD t k 0 % 8 * 8 + getD t l 0 % 8) m
+unfolding escapeAt octalOf
+octal-three t j k l m p q r f g h =
+    let x = digit-value 51 (getD t j 0) (omega arith) f in
+    let y = digit-value 55 (getD t k 0) (omega arith) g in
+    let z = digit-value 55 (getD t l 0) (omega arith) h in
+    let small : (getD t j 0 - 48) * 64 + (getD t k 0 - 48) * 8 + (getD t l 0 - 48) ≤ 255 = omega arith in
+    rw (
+      p,
+      q,
+      r,
+      x .0,
+      y .0,
+      z .0,
+      lt-ltb (getD t j 0 - 48) 8 (omega arith),
+      lt-ltb (getD t k 0 - 48) 8 (omega arith),
+      lt-ltb (getD t l 0 - 48) 8 (omega arith),
+      le-leb ((getD t j 0 - 48) * 64 + (getD t k 0 - 48) * 8 + (getD t l 0 - 48)) 255 small,
+    )
+    (ap (λ (v : ℕ). S.Byte v m) (omega arith))
+
+-- ---- what is told of a place
+
+-- `^?` is another matter
+question-apart : (c : ℕ) → isControl c ≡ true → c ≡ 63 → ⊥
+unfolding isControl
+question-apart c h e = true-false (sym h ∙ ap isControl e)
+
+module _ (t : List ℕ) (i : ℕ) where
+  abbrev b : ℕ
+  b = getD t i 0
+
+  abbrev next : ℕ
+  next = getD t (i + 1) 0
+
+  abbrev second : Bool
+  second = between 48 55 (getD t (i + 2) 0)
+
+  abbrev third : Bool
+  third = between 48 55 (getD t (i + 3) 0)
+
+  pub tells-end : b ≡ 44 → Tells End t i
   unfolding stringItemAt
-  item-itself = by-tests (eqb (getD t i 0) 44) (between 32 126 (getD t i 0)) refl refl
-    where
-      by-tests : (a b : Bool) → eqb (getD t i 0) 44 ≡ a → between 32 126 (getD t i 0) ≡ b → stringItemAt t i ≡ Byte (getD t i 0) (i + 1)
-      by-tests true b p q = absurd (before (rw p))
-      by-tests false true p q = rw (p, others .0, others .1, others .2, q)
-      by-tests false false p q = absurd (right (rw (p, others .0, others .1, others .2, q)))
+  tells-end e = rw e
 
-  pub itself-stored : storedByte (getD t i 0) ≡ getD t i 0
-  unfolding storedByte stringItemAt
-  itself-stored = by-test (eqb (getD t i 0) 0) refl
-    where
-      by-test : (a : Bool) → eqb (getD t i 0) 0 ≡ a → (if a then 128 else getD t i 0) ≡ getD t i 0
-      by-test true p = absurd (right (rw (eqb-true (getD t i 0) 0 p)))
-      by-test false p = refl
+  pub tells-itself : 32 ≤ b → b ≤ 126 → (b ≡ 44 → ⊥) → (b ≡ 92 → ⊥) → (b ≡ 94 → ⊥) → Tells Itself t i
+  unfolding stringItemAt storedByte
+  tells-itself low high comma backslash caret =
+      let c = ne-eqb b 44 comma in
+      let s = ne-eqb b 92 backslash in
+      let d = ne-eqb b 94 caret in
+      let l = ne-eqb b 10 (λ e. omega arith) in
+      (rw (c, s, d, l, le-leb 32 b low, le-leb b 126 high), rw (ne-eqb b 0 (λ e. omega arith)))
 
--- ---- lines
+  pub tells-escape : isEscape t i ≡ true → Tells Pair t i
+  unfolding stringItemAt escapeAt isEscape digitOf letterOf pairOf
+  tells-escape h =
+      let s = both (eqb b 92) (eqb next 69) h in
+      rw (eqb-true b 92 (s .0), eqb-true next 69 (s .1)) (ap (S.Byte 27) (omega arith))
+
+  pub tells-control : isControlAt t i ≡ true → Tells Pair t i
+  unfolding stringItemAt caretAt isControlAt pairOf
+  tells-control h =
+      let s = both (eqb b 94) (isControl next) h in
+      let apart = ne-eqb next 63 (question-apart next (s .1)) in
+      rw (eqb-true b 94 (s .0), apart, s .1) (ap (S.Byte (next % 32)) (omega arith))
+
+  behind : b ≡ 92 → stringItemAt t i ≡ escapeAt t (i + 1)
+  unfolding stringItemAt
+  behind e = rw e
+
+  pub tells-octal : isOctal t i ≡ true → Tells Octal t i
+  unfolding isOctal octalValue
+  tells-octal h =
+      let s = both (eqb b 92) (between 48 51 next && (second && third)) h in
+      let d = both (between 48 51 next) (second && third) (s .1) in
+      let e = both second third (d .1) in
+      behind (eqb-true b 92 (s .0))
+      ∙ octal-three t (i + 1) (i + 2) (i + 3) (i + 4) (omega arith) (omega arith) (omega arith) (d .0) (e .0) (e .1)

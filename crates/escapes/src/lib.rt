@@ -69,7 +69,7 @@ fn escape_at(text: &[u8], at: usize) -> StringItem
 }
 
 // `^` and this byte are a control character.
-fn is_control(b: u8) -> bool
+pub fn is_control(b: u8) -> bool
     ensures { λ r. ⌜ r ≡ isControl b ⌝ }
 {
     match b {
