@@ -149,6 +149,24 @@ module _ {e : Edition} {f : List ℕ} {t : Tables} (o : OpenedAs e f t) where
       let b : end ≡ nulFrom f (tableAt (sizesOf f) + at .0) (sizeOf (sizesOf f)) = q ∙ ap₂ (nulFrom f) a (framed .size) in
       λ i. record { start = a i; length = b i - a i }
 
+  -- a string that a slot presents ends in the file
+  pub string-ends : (p : Place) (o : Offset) → present o ≡ offsetIn f (sizesOf f) p
+      → nulFrom f (t .«table_at» + o .0) (length f) < length f
+  unfolding offsetIn okOffset
+  string-ends p o q = by-slot (slotIn offsetWidth f (stringsAt (sizesOf f)) (sizesOf f .strings) p) (offset-fits f opened-file p) q
+    where
+      by-slot : (x : State ℕ) → Passes (λ c. okOffset f (sizesOf f) (offset c)) x → present o ≡ mapState offset x
+          → nulFrom f (t .«table_at» + o .0) (length f) < length f
+      by-slot absent k r = absurd (let z : _≡_ {A = ℕ} 0 1 = cc in (let y : ⊥ = omega arith in y))
+      by-slot cancelled k r = absurd (let z : _≡_ {A = ℕ} 0 1 = cc in (let y : ⊥ = omega arith in y))
+      by-slot (present c) k r =
+          let m : o ≡ offset c = cc in
+          let a : t .«table_at» + o .0 ≡ tableAt (sizesOf f) + c = ap₂ (λ (x y : ℕ). x + y) (at-table framed) (ap (λ (u : Offset). u .0) m) in
+          let b : nulFrom f (t .«table_at» + o .0) (length f) ≡ nulFrom f (tableAt (sizesOf f) + c) (sizeOf (sizesOf f)) = ap₂ (nulFrom f) a (framed .size) in
+          let l : nulFrom f (tableAt (sizesOf f) + c) (sizeOf (sizesOf f)) < sizeOf (sizesOf f) = ltb-true _ _ (and-right (ltb c (sizesOf f .table)) _ k) in
+          let n = framed .size in
+          omega arith
+
   pub asked-string : (p : Place) (x : State Offset) → p .0 < e .strings → x ≡ offsetIn f (sizesOf f) p
       → gives (mapState (contentAt f (sizesOf f)) x) ≡ askingString e f p
   unfolding partIn

@@ -37,9 +37,3 @@ abbrev pub saysOffset : OffsetSlot → State Offset
 saysOffset O.Absent = absent
 saysOffset O.Cancelled = cancelled
 saysOffset (O.At o) = present o
-
--- an offset fits a short
-abbrev pub OffsetFits : OffsetSlot → Type 0
-OffsetFits O.Absent = Unit {0}
-OffsetFits O.Cancelled = Unit {0}
-OffsetFits (O.At o) = o .0 < 65536

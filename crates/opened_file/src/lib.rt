@@ -7,11 +7,12 @@ ghost use lib.ListN.{length};
 ghost use Rattle.entry.specs.Limits.{shortWidth};
 ghost use Rattle.entry.specs.State.{booleanOf};
 ghost use Rattle.base.specs.Answer.{gives};
+ghost use Rattle.word.specs.Nul.{nulFrom};
 ghost use Rattle.entry.specs.Layout.{sizesOf};
 ghost use Rattle.entry.specs.Reading.{slotIn, offsetIn, contentAt};
 ghost use Rattle.entry.specs.Asking.{opening, askingNames, askingBoolean, askingNumber, askingString};
 ghost use Rattle.entry.specs.Says.{saysOpened, saysBoolean, saysNumber, saysString};
-ghost use Rattle.opened_file.specs.Opened.{OpenedAs, saysSlot, CodeFits, saysOffset, OffsetFits};
+ghost use Rattle.opened_file.specs.Opened.{OpenedAs, saysSlot, CodeFits, saysOffset};
 use edition::Edition;
 use edition::Place;
 use entry::ABSENT_MARK;
@@ -112,8 +113,7 @@ pub fn number_opened(file: &[u8], edition: Edition, t: Tables, place: Place) -> 
 // The slot of the string at a place: an offset into the string table, or a mark.
 fn offset_at(file: &[u8], edition: Edition, t: Tables, place: Place) -> OffsetSlot
     requires { ⌜ OpenedAs edition (now file) t ⌝ }
-    ensures { λ r. ⌜ (saysOffset r ≡ offsetIn (now (file .entry)) (sizesOf (now (file .entry))) place)
-        × OffsetFits r ⌝ }
+    ensures { λ r. ⌜ saysOffset r ≡ offsetIn (now (file .entry)) (sizesOf (now (file .entry))) place ⌝ }
 {
     match slot_at(file, t.strings_at, t.strings, place) {
         Slot::Absent => OffsetSlot::Absent,
@@ -122,13 +122,14 @@ fn offset_at(file: &[u8], edition: Edition, t: Tables, place: Place) -> OffsetSl
     }
 }
 
-// The content at an offset of the string table, up to the first NUL.
+// The content at an offset of the string table, up to the first NUL, which is there.
 fn content_at(file: &[u8], edition: Edition, t: Tables, offset: Offset) -> Part
-    requires { ⌜ OpenedAs edition (now file) t × (offset .0 < 65536) ⌝ }
+    requires { ⌜ OpenedAs edition (now file) t
+        × (nulFrom (now file) (t .«table_at» + offset .0) (length (now file)) < length (now file)) ⌝ }
     ensures { λ r. ⌜ r ≡ contentAt (now (file .entry)) (sizesOf (now (file .entry))) offset ⌝ }
 {
     let start = t.table_at + offset.0;
-    let end = word::find_nul(file, start, file.len());
+    let end = word::nul_from(file, start);
     Part {
         start,
         length: end - start,

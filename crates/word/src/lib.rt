@@ -39,3 +39,15 @@ pub fn find_nul(f: &[u8], a: usize, e: usize) -> usize
     }
     i
 }
+
+// The place of the first NUL from a on, which is there: no byte is tested for the end.
+pub fn nul_from(f: &[u8], a: usize) -> usize
+    requires { ⌜ nulFrom (now f) a (length (now f)) < length (now f) ⌝ }
+    ensures { λ r. ⌜ r ≡ nulFrom (now (f .entry)) a (length (now (f .entry))) ⌝ }
+{
+    let mut i = a;
+    while f[i] != 0 {
+        i += 1;
+    }
+    i
+}

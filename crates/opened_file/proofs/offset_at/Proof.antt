@@ -3,7 +3,7 @@ use mathlib.Core.Path.{sym, ap, _∙_, subst}
 use native.Mathlib.Omega.{arith}
 use borrow.Author.Needs.{needs}
 use Rattle.file_tables.proofs.Laws.{at-strings, in-strings}
-use Rattle.opened_file.specs.Opened.{saysSlot, CodeFits}
+use Rattle.opened_file.specs.Opened.{saysSlot}
 use Rattle.opened_file.proofs.Laws.{framed, opened-offset}
 use Rattle.opened_file.proofs.offset_at.Statement.{statement}
 use Rattle.opened_file.proofs.offset_at.Tie as tie
@@ -26,16 +26,13 @@ enum-known-c : tie.Need-enum-known-c
 enum-known-c c = search needs
 
 returns : tie.Need-returns
-returns c = (opened-offset (c .before .before .before .before .pre) (c .before .before .before .before .args .place) _ (ap saysSlot (sym (c .enum-told .given .1)) ∙ c .before .before .slot-at .ensures .0), tt)
+returns c = opened-offset (c .before .before .before .before .pre) (c .before .before .before .before .args .place) _ (ap saysSlot (sym (c .enum-told .given .1)) ∙ c .before .before .slot-at .ensures .0)
 
 returns-2 : tie.Need-returns-2
-returns-2 c = (opened-offset (c .before .before .before .before .pre) (c .before .before .before .before .args .place) _ (ap saysSlot (sym (c .enum-told2 .given .1)) ∙ c .before .before .slot-at .ensures .0), tt)
+returns-2 c = opened-offset (c .before .before .before .before .pre) (c .before .before .before .before .args .place) _ (ap saysSlot (sym (c .enum-told2 .given .1)) ∙ c .before .before .slot-at .ensures .0)
 
 returns-3 : tie.Need-returns-3
-returns-3 c = (
-  opened-offset (c .before .before .before .before .before .pre) (c .before .before .before .before .before .args .place) _ (ap saysSlot (sym (c .before .c .given .1)) ∙ c .before .before .before .slot-at .ensures .0),
-  subst CodeFits (c .before .c .given .1) (c .before .before .before .slot-at .ensures .1),
-)
+returns-3 c = opened-offset (c .before .before .before .before .before .pre) (c .before .before .before .before .before .args .place) _ (ap saysSlot (sym (c .before .c .given .1)) ∙ c .before .before .before .slot-at .ensures .0)
 
 pub offset-at-spec : {M : Type 1} → statement M
 offset-at-spec =
