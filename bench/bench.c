@@ -2,10 +2,11 @@
  *
  *     bench COLUMN ROW COUNT FILE.. [ARGUMENT..]
  *
- * COLUMN is ours, ncurses or unibilium; ROW is expand, open, list, compile, merge (merge512 in an edition
- * of 512 strings) or write. COUNT is how often the row is run; with COUNT 0 the program prints
- * nanoseconds of processor time per run, the least of several tries. Buffers and variables are not
- * cleared between runs.
+ * COLUMN is ours, ncurses or unibilium; ROW is expand, open, list, compile (in the second edition;
+ * compile1 in the first, compile-all of every text in the file), merge (merge512 in an edition of 512
+ * strings) or write. The other rows are of the first edition. COUNT is how often the row is run; with
+ * COUNT 0 the program prints nanoseconds of processor time per run, the least of several tries. Buffers
+ * and variables are not cleared between runs.
  *
  *     bench compare expand 0 FILE [ARGUMENT..]
  *
@@ -26,10 +27,17 @@
 #endif
 #include "terminfo_c.h"
 
-enum { BOOLEANS = 21, NUMBERS = 8, STRINGS = 138, LARGEST = 1 << 16, MOST = 4096 };
-enum { AM_PLACE = 1, COLS_PLACE = 0, CUP_PLACE = 10 };
+enum {
+    BOOLEANS = TERMINFO_FIRST_BOOLEANS,
+    NUMBERS = TERMINFO_FIRST_NUMBERS,
+    STRINGS = TERMINFO_FIRST_STRINGS,
+    LARGEST_INPUT = 1 << 22,
+    LARGEST = 1 << 16,
+    MOST = 4096
+};
+enum { AM_PLACE = TERMINFO_AM, COLS_PLACE = TERMINFO_COLS, CUP_PLACE = TERMINFO_CUP };
 
-static uint8_t files[2][LARGEST];
+static uint8_t files[2][LARGEST_INPUT];
 static size_t lengths[2];
 static const char *strings[MOST];
 static size_t string_lengths[MOST], string_count;
@@ -45,10 +53,11 @@ static void fail(const char *what) {
 static void load(int which, const char *path) {
     FILE *file = fopen(path, "rb");
     if (!file) fail(path);
-    lengths[which] = fread(files[which], 1, LARGEST, file);
+    lengths[which] = fread(files[which], 1, LARGEST_INPUT, file);
     fclose(file);
 }
 
+/* Finds the strings or texts of the first file, each of which has a NUL behind it. */
 static void split(void) {
     const char *at = (const char *)files[0], *end = at + lengths[0];
     while (at < end && string_count < MOST) {
@@ -83,8 +92,20 @@ static void list_ours(void) {
     kept = booleans[AM_PLACE] + values[COLS_PLACE] + starts[CUP_PLACE];
 }
 
-static void compile_ours(void) {
-    kept = terminfo_compile(files[0], lengths[0], output, sizeof output);
+static void compile_first(void) {
+    kept = terminfo_compile(files[0], lengths[0], TERMINFO_FIRST_EDITION, output, sizeof output);
+}
+
+static void compile_second(void) {
+    kept = terminfo_compile(files[0], lengths[0], TERMINFO_SECOND_EDITION, output, sizeof output);
+}
+
+static void compile_all(void) {
+    for (size_t i = 0; i < string_count; i++) {
+        kept = terminfo_compile((const uint8_t *)strings[i], string_lengths[i],
+                                TERMINFO_SECOND_EDITION, output, sizeof output);
+        if (terminfo_refusal(kept)) fail("a text is refused");
+    }
 }
 
 static void merge_in(size_t strings_known) {
@@ -222,7 +243,9 @@ static const Row rows[] = {
     {"ours", "expand", expand_ours},
     {"ours", "open", open_ours},
     {"ours", "list", list_ours},
-    {"ours", "compile", compile_ours},
+    {"ours", "compile", compile_second},
+    {"ours", "compile1", compile_first},
+    {"ours", "compile-all", compile_all},
     {"ours", "merge", merge_ours},
     {"ours", "merge512", merge_512_strings},
     {"ours", "write", write_shared},
@@ -267,7 +290,7 @@ int main(int argc, char **argv) {
     int merging = strncmp(argv[2], "merge", 5) == 0;
     load(0, argv[4]);
     load(1, argv[merging && argc > 5 ? 5 : 4]);
-    if (strcmp(argv[2], "expand") == 0) split();
+    if (strcmp(argv[2], "expand") == 0 || strcmp(argv[2], "compile-all") == 0) split();
     for (int i = 0; i < 9 && 5 + i < argc && !merging; i++) arguments[i] = atoi(argv[5 + i]);
 #ifdef WITH_UNIBILIUM
     for (int i = 0; i < 9; i++) variables[i] = unibi_var_from_num(arguments[i]);

@@ -1,6 +1,6 @@
 """Writes what bench/run measures into a folder: strings, entries, texts, and notes on them.
 
-A file of strings has a NUL after each one.
+A file of strings or texts has a NUL after each one.
 """
 
 import os
@@ -16,7 +16,6 @@ import model  # noqa: E402
 import text_model  # noqa: E402
 
 ENVIRONMENT = {"PATH": os.environ["PATH"], "LC_ALL": "C"}
-KNOWN = {name for names in model.LISTS for name in names}
 MERGED_SIZE = 1100
 MIX_ARGUMENTS = [1, 2, 3, 4, 5, 6, 7, 8, 9]
 MAGIC_OF_WIDE_NUMBERS = 0o1036
@@ -70,15 +69,31 @@ def recompiled(folder, directory, name):
     return (folder / "tic" / first[0] / first).read_bytes()
 
 
-def cut(text):
-    """What infocmp -1 prints, cut to names, capabilities and spelling of document 01."""
+def cut(text, edition):
+    """What infocmp -1 prints, cut to an edition's names and document 01's limits and spelling."""
+    known = {name for names, count in zip(model.LISTS, edition) for name in names[:count]}
     header, *lines = [line for line in text.split(b"\n") if line and not line.startswith(b"#")]
     *aliases, last = header.removesuffix(b",").split(b"|")
-    kept = [b"|".join([alias[:14] for alias in aliases] + [last]) + b","]
+    names = b"".join(alias[:text_model.LONGEST_ALIAS] + b"|" for alias in aliases)
+    kept = [names + last[:text_model.LONGEST_NAMES - len(names)] + b","]
     for line in lines:
-        if re.match(rb"\t([^=#@,]+)", line)[1].decode("ascii") in KNOWN:
-            kept.append(line.replace(b"%^", b"%\\^"))
+        name, mark, value = re.fullmatch(rb"\t([^=#@,]+)([=#@]?)(.*),", line).groups()
+        if name.decode("ascii") not in known:
+            continue
+        if mark == b"#" and int(value, 0) > model.LARGEST_SHORT:
+            value = b"%d" % model.LARGEST_SHORT
+        if mark == b"=":
+            value = value.replace(b"%^", b"%\\^")
+        kept.append(b"\t" + name + mark + value + b",")
     return b"\n".join(kept) + b"\n"
+
+
+def compiled(text, edition):
+    """The file of a text in an edition."""
+    number, values, file = text_model.compile(text, model.LARGEST_FILE, edition)
+    if file is None:
+        sys.exit(f"refused {number} {values}: {text}")
+    return file
 
 
 def text_of_strings(size):
@@ -86,7 +101,7 @@ def text_of_strings(size):
     header = b"bench|strings in octal,\n"
     lines = [b"#" + (127 - 1 - len(header)) * b"-" + b"\n" + header]
     for name in model.STRINGS[:size // 128 - 1]:
-        field = name.encode() + b"=" + 7 * rb"\033\133\061\155" + b",\n"
+        field = name.encode() + b"=" + 6 * rb"\033\133\061\155" + b",\n"
         lines.append((128 - len(field)) * b" " + field)
     return b"".join(lines)
 
@@ -150,19 +165,25 @@ def put_rows(folder):
 
 def main(folder):
     (folder / "tic").mkdir(parents=True, exist_ok=True)
-    mix, sized, xterm = set(), [], None
+    mix, sized, texts, xterm = set(), [], [], None
     for directory, name in entries():
         file = (Path(directory) / name[0] / name).read_bytes()
         mix.update(string for _, string in strings(file) if b"%" in string and accepted(string))
-        text = cut(run("infocmp", "-1", "-A", directory, name))
-        first_edition = text_model.compile(text, model.LARGEST_FILE)[2]
+        printed = run("infocmp", "-1", "-A", directory, name)
+        first, second = (cut(printed, edition)
+                         for edition in (model.FIRST_EDITION, model.SECOND_EDITION))
+        first_edition = compiled(first, model.FIRST_EDITION)
+        compiled(second, model.SECOND_EDITION)
+        texts.append(second)
         sized.append((abs(len(first_edition) - MERGED_SIZE), name, first_edition))
         if name == "xterm":
-            xterm = recompiled(folder, directory, name), first_edition, text
-    file, first_edition, text = xterm
+            xterm = recompiled(folder, directory, name), first_edition, first, second
+    file, first_edition, first, second = xterm
     (folder / "xterm").write_bytes(file)
     (folder / "xterm-first").write_bytes(first_edition)
-    (folder / "xterm.ti").write_bytes(text)
+    (folder / "xterm-first.ti").write_bytes(first)
+    (folder / "xterm-second.ti").write_bytes(second)
+    put_strings(folder, "texts", texts)
     of_xterm = dict(strings(file))
     put_strings(folder, "cup", [of_xterm[model.STRINGS.index("cup")]])
     put_strings(folder, "sgr", [of_xterm[model.STRINGS.index("sgr")]])
@@ -172,7 +193,10 @@ def main(folder):
              f"- open: xterm without extended section, in the first edition "
              f"({len(first_edition):,} bytes) and as tic compiles it ({len(file):,} bytes), "
              "read in the first edition;",
-             f"- compile: xterm's capabilities of the first edition, {len(text):,} bytes of text;"]
+             f"- compile xterm: its capabilities of each edition, {len(first):,} and "
+             f"{len(second):,} bytes of text; in the column of ncurses what tic takes;",
+             f"- compile all: {len(texts)} descriptions of {sum(map(len, texts)):,} bytes, their "
+             "capabilities of the second edition, one after the other;"]
     pair = []
     for which, (_, name, first_edition) in zip(("first", "second"), sorted(sized)):
         (folder / which).write_bytes(first_edition)

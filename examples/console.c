@@ -1,16 +1,21 @@
-/* Writes the entry of a track console, 24 x 80, in the first edition, and reads it back in two editions. */
+/* Writes the entry of a track console, 24 x 80 in eight colors, in the second edition, and reads it back in both. */
 #include <stdio.h>
 #include <string.h>
 #include "terminfo_c.h"
 
-enum { BOOLEANS = TERMINFO_FIRST_BOOLEANS, NUMBERS = TERMINFO_FIRST_NUMBERS, STRINGS = TERMINFO_FIRST_STRINGS };
+enum { BOOLEANS = TERMINFO_SECOND_BOOLEANS, NUMBERS = TERMINFO_SECOND_NUMBERS, STRINGS = TERMINFO_SECOND_STRINGS };
 
-/* Prints the state of a capability that is asked for by its name, as an edition that knows so many strings reads it. */
-static void show(const uint8_t *file, size_t length, size_t strings, const char *name) {
+typedef struct {
+    const char *name;
+    size_t booleans, numbers, strings;
+} Edition;
+
+/* Prints the state of a capability that is asked for by its name, as an edition reads it. */
+static void show(const uint8_t *file, size_t length, const Edition *e, const char *name) {
     static const char *const kinds[] = {"absent", "present", "cancelled", "refused"};
     const uint8_t *bytes = (const uint8_t *)name;
-    uint64_t found = terminfo_find(bytes, strlen(name), BOOLEANS, NUMBERS, strings);
-    uint64_t answer = terminfo_state(file, length, BOOLEANS, NUMBERS, strings, bytes, strlen(name));
+    uint64_t found = terminfo_find(bytes, strlen(name), e->booleans, e->numbers, e->strings);
+    uint64_t answer = terminfo_state(file, length, e->booleans, e->numbers, e->strings, bytes, strlen(name));
     printf("  %-6s %s", name, kinds[terminfo_kind(answer)]);
     if (terminfo_kind(answer) == TERMINFO_REFUSED)
         printf(" %u", terminfo_refusal(answer));
@@ -25,6 +30,8 @@ static void show(const uint8_t *file, size_t length, size_t strings, const char 
 }
 
 int main(void) {
+    static const Edition editions[] = {{"second", TERMINFO_SECOND_EDITION}, {"first", TERMINFO_FIRST_EDITION}};
+    static const char *const shown[] = {"am", "bw", "cols", "lines", "colors", "clear", "cup", "ri"};
     const char *names = "console|track console, 24 x 80";
     const char *lent = "\033[H\033[J" "\033[%i%p1%d;%p2%dH"; /* clear, cup */
     uint8_t boolean_kinds[BOOLEANS] = {0}, number_kinds[NUMBERS] = {0}, string_kinds[STRINGS] = {0};
@@ -33,6 +40,7 @@ int main(void) {
     boolean_kinds[TERMINFO_AM] = TERMINFO_PRESENT;
     number_kinds[TERMINFO_COLS] = TERMINFO_PRESENT, number_values[TERMINFO_COLS] = 80;
     number_kinds[TERMINFO_LINES] = TERMINFO_PRESENT, number_values[TERMINFO_LINES] = 24;
+    number_kinds[TERMINFO_COLORS] = TERMINFO_PRESENT, number_values[TERMINFO_COLORS] = 8;
     string_kinds[TERMINFO_CLEAR] = TERMINFO_PRESENT, lengths[TERMINFO_CLEAR] = 6;
     string_kinds[TERMINFO_CUP] = TERMINFO_PRESENT, starts[TERMINFO_CUP] = 6, lengths[TERMINFO_CUP] = 16;
     string_kinds[TERMINFO_RI] = TERMINFO_CANCELLED;
@@ -47,17 +55,13 @@ int main(void) {
     }
     size_t length = terminfo_value(written);
     printf("written: %zu bytes\n", length);
-    for (size_t strings = STRINGS; strings >= 100; strings -= 38) {
+    for (const Edition *e = editions; e < editions + 2; e++) {
         uint64_t tables[10];
-        terminfo_open(file, length, BOOLEANS, NUMBERS, strings, tables);
-        printf("an edition of %zu strings, %u slots beyond it:\n", strings, (unsigned)tables[9]);
-        show(file, length, strings, "am");
-        show(file, length, strings, "bw");
-        show(file, length, strings, "cols");
-        show(file, length, strings, "lines");
-        show(file, length, strings, "clear");
-        show(file, length, strings, "cup");
-        show(file, length, strings, "ri");
+        terminfo_open(file, length, e->booleans, e->numbers, e->strings, tables);
+        printf("the %s edition, beyond it %u booleans, %u numbers, %u strings:\n", e->name, (unsigned)tables[7],
+               (unsigned)tables[8], (unsigned)tables[9]);
+        for (size_t i = 0; i < sizeof shown / sizeof shown[0]; i++)
+            show(file, length, e, shown[i]);
     }
     return 0;
 }

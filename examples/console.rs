@@ -1,23 +1,21 @@
-// The library in Rust: writes the entry of a track console, opens it and prints three capabilities.
+// The library in Rust: compiles the text of a track console in the second edition, opens the file and prints four capabilities.
 extern "C" {
     fn terminfo_open(file: *const u8, length: usize, booleans: usize, numbers: usize, strings: usize, tables: *mut u64) -> u64;
     fn terminfo_boolean(file: *const u8, length: usize, booleans: usize, numbers: usize, strings: usize, place: usize) -> u64;
     fn terminfo_number(file: *const u8, length: usize, booleans: usize, numbers: usize, strings: usize, place: usize) -> u64;
     fn terminfo_string(file: *const u8, length: usize, booleans: usize, numbers: usize, strings: usize, place: usize) -> u64;
-    fn terminfo_write(booleans: usize, numbers: usize, strings: usize, names: *const u8, names_length: usize,
-        boolean_kinds: *const u8, boolean_kinds_length: usize, number_kinds: *const u8, number_kinds_length: usize,
-        number_values: *const u32, number_values_length: usize, string_kinds: *const u8, string_kinds_length: usize,
-        string_starts: *const usize, string_starts_length: usize, string_lengths: *const usize, string_lengths_length: usize,
-        lent: *const u8, lent_length: usize, buffer: *mut u8, buffer_length: usize) -> u64;
+    fn terminfo_compile(text: *const u8, length: usize, booleans: usize, numbers: usize, strings: usize, buffer: *mut u8,
+        buffer_length: usize) -> u64;
 }
 
-// Places, as in include/terminfo_names.h, and an edition that knows the places up to these.
+// Places and the second edition, as in include/terminfo_names.h.
 const AM: usize = 1;
 const COLS: usize = 0;
+const COLORS: usize = 13;
 const CUP: usize = 10;
-const BOOLEANS: usize = AM + 1;
-const NUMBERS: usize = COLS + 1;
-const STRINGS: usize = CUP + 1;
+const BOOLEANS: usize = 37;
+const NUMBERS: usize = 16;
+const STRINGS: usize = 158;
 
 #[derive(Clone, Copy)]
 enum Kind { Boolean, Number, String }
@@ -47,15 +45,13 @@ impl<'a> Entry<'a> {
 }
 
 fn main() -> Result<(), u64> {
-    let (names, cup, mut file) = (b"console|track console, 24 x 80", b"\x1b[%i%p1%d;%p2%dH", [0; 4096]);
-    let (booleans, numbers, values) = ([0, 1], [1], [80]);
-    let (strings, starts, lengths) = ([0, 0, 0, 0, 0, 0, 0, 0, 0, 0, 1], [0; STRINGS], [cup.len(); STRINGS]);
-    let written = unsafe { terminfo_write(BOOLEANS, NUMBERS, STRINGS, names.as_ptr(), names.len(), booleans.as_ptr(), BOOLEANS,
-        numbers.as_ptr(), NUMBERS, values.as_ptr(), NUMBERS, strings.as_ptr(), STRINGS, starts.as_ptr(), STRINGS,
-        lengths.as_ptr(), STRINGS, cup.as_ptr(), cup.len(), file.as_mut_ptr(), file.len()) };
-    if written >> 56 != 0 { return Err(written >> 56); }
-    let entry = Entry::open(&file[..written as usize])?;
-    for (name, kind, place) in [("am", Kind::Boolean, AM), ("cols", Kind::Number, COLS), ("cup", Kind::String, CUP)] {
+    let text = b"console|track console of 24 x 80,\n\tam, cols#80, colors#8, cup=\\E[%i%p1%d;%p2%dH,\n";
+    let mut file = [0; 4096];
+    let compiled = unsafe { terminfo_compile(text.as_ptr(), text.len(), BOOLEANS, NUMBERS, STRINGS, file.as_mut_ptr(), file.len()) };
+    if compiled >> 56 != 0 { return Err(compiled >> 56); }
+    let entry = Entry::open(&file[..compiled as usize])?;
+    let shown = [("am", Kind::Boolean, AM), ("cols", Kind::Number, COLS), ("colors", Kind::Number, COLORS), ("cup", Kind::String, CUP)];
+    for (name, kind, place) in shown {
         println!("{name} {}", entry.state(kind, place)?);
     }
     Ok(())

@@ -1,4 +1,4 @@
-/* Reads a compiled file from standard input in editions of fewer and fewer strings. */
+/* Reads a compiled file from standard input in the first edition, and in ones of fewer and fewer strings. */
 #include <stdio.h>
 #include "terminfo_c.h"
 

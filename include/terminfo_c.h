@@ -3,8 +3,10 @@
  *
  * An edition is three counts, of booleans (at most 64), numbers (at most 64) and strings (at most
  * 512); it knows the places below its counts in the three ordered lists of capabilities. The first
- * edition is 21, 8, 138 (TERMINFO_FIRST_EDITION), and terminfo_names.h has a constant for each of
- * its places: TERMINFO_COLS is the place of cols in the list of numbers.
+ * edition is 21, 8, 138 (TERMINFO_FIRST_EDITION), the second one, which knows all capabilities that
+ * have a name, is 37, 16, 158 (TERMINFO_SECOND_EDITION). Every call that reads or writes takes the
+ * edition from its caller, these or any other. terminfo_names.h has a constant for each place that
+ * has a name: TERMINFO_COLS is the place of cols in the list of numbers.
  *
  * Every call returns 64 bits. Bits 56 to 63 hold the number of the refusal, 0 for success; the
  * bits below hold what the call or the refusal gives, and are 0 where it gives nothing. Calls that
@@ -28,7 +30,7 @@
  *     9   the file to be written is longer than 4,096 bytes
  *     10  the text is malformed; for 10 to 13 bits 0 to 47 give the first byte of the field, 0 for
  *         the header, and its own for a second line that starts in column 1
- *     11  a field's name is unknown, or of another kind; or the edition does not know the name
+ *     11  the edition does not know the name, or a field's name is of another kind
  *     12  a field is use=
  *     13  an alias of the text is longer than 14 bytes, a number above 32,767 or of more than 99
  *         digits, a string longer than 1,000 bytes, or all names together longer than 127; or the
@@ -49,8 +51,8 @@
  *
  * No call uses the heap or keeps anything from one call to the next. What each says of its stack is
  * counted in the disassembly of the library on x86-64 (bench/stack.py): frames, return addresses and
- * arguments along the longest chain of calls, whatever the input. What memcpy and memset of the C
- * library use comes on top, and once what the dynamic linker uses to find them.
+ * arguments along the longest chain of calls, whatever the input. What memcpy, memset and strlen of
+ * the C library use comes on top, and once what the dynamic linker uses to find them.
  */
 #ifndef TERMINFO_C_H
 #define TERMINFO_C_H
@@ -195,7 +197,7 @@ uint64_t terminfo_string(const uint8_t *file, size_t file_length, size_t boolean
  *
  * Success gives 0. Refusal 17: terminfo_open refuses the file.
  *
- * Uses at most 256 bytes of stack. */
+ * Uses at most 320 bytes of stack. */
 uint64_t terminfo_ask(const uint8_t *file, size_t file_length, size_t booleans, size_t numbers,
                       size_t strings, const uint8_t kinds[8], const size_t places[8],
                       uint64_t answers[8]);
@@ -219,7 +221,7 @@ uint64_t terminfo_ask(const uint8_t *file, size_t file_length, size_t booleans, 
  * 8 (an array is shorter than the edition counts, the booleans' first, then one of the numbers', then
  * one of the strings'; gives the count: terminfo_value).
  *
- * Uses at most 304 bytes of stack. */
+ * Uses at most 320 bytes of stack. */
 uint64_t terminfo_list(const uint8_t *file, size_t file_length, size_t booleans, size_t numbers,
                        size_t strings,
                        uint8_t *boolean_kinds, size_t boolean_kinds_length,
@@ -261,10 +263,12 @@ uint64_t terminfo_write(size_t booleans, size_t numbers, size_t strings,
                         const uint8_t *lent, size_t lent_length,
                         uint8_t *buffer, size_t buffer_length);
 
-/* Compiles source text that holds one description and writes the file in the first edition, from the
- * buffer's first byte on.
+/* Compiles source text that holds one description and writes the file, which has exactly the
+ * edition's slots, from the buffer's first byte on.
  *
  * text, text_length           the bytes of the text.
+ * booleans, numbers, strings  the edition of the file. The names that fields may have are those of
+ *                             its places; a place that has no name is absent in the file.
  * buffer                      takes the file; its bytes past the file stay.
  *
  * Lines end in byte 10, white space is space and tab. Blank lines and lines whose first nonblank is
@@ -289,14 +293,14 @@ uint64_t terminfo_write(size_t booleans, size_t numbers, size_t strings,
  *
  * The first field for a capability stands; later ones are checked and ignored.
  *
- * Success gives the file's length (terminfo_value). Refusals, the first that applies: 1; then of the
- * header and the fields in turn 10, 12, 11, 13, with the place of the first byte of the field, 0
- * for the header (terminfo_value); 13 for all names together, with 0; 9; 8 (gives the file's
- * length: terminfo_value).
+ * Success gives the file's length (terminfo_value). Refusals, the first that applies: 3 (edition);
+ * 1; then of the header and the fields in turn 10, 12, 11, 13, with the place of the first byte of
+ * the field, 0 for the header (terminfo_value); 13 for all names together, with 0; 9; 8 (gives the
+ * file's length: terminfo_value).
  *
- * Uses at most 9,520 bytes of stack. */
-uint64_t terminfo_compile(const uint8_t *text, size_t text_length, uint8_t *buffer,
-                          size_t buffer_length);
+ * Uses at most 9,568 bytes of stack. */
+uint64_t terminfo_compile(const uint8_t *text, size_t text_length, size_t booleans,
+                          size_t numbers, size_t strings, uint8_t *buffer, size_t buffer_length);
 
 /* Merges a first file over a second one and writes the result, from the buffer's first byte on.
  *
@@ -316,20 +320,21 @@ uint64_t terminfo_compile(const uint8_t *text, size_t text_length, uint8_t *buff
  * (edition), 1 to 7 as terminfo_open gives them for the first file, 1 to 7 as it gives them for the
  * second file, 9, 8 (gives the merged file's length: terminfo_value).
  *
- * Uses at most 10,048 bytes of stack. */
+ * Uses at most 10,064 bytes of stack. */
 uint64_t terminfo_merge(const uint8_t *first, size_t first_length, const uint8_t *second,
                         size_t second_length, size_t booleans, size_t numbers, size_t strings,
                         uint8_t *buffer, size_t buffer_length);
 
-/* Gives the name of a capability of the first edition.
+/* Gives the name of a capability, whichever edition knows it.
  *
  * kind   the kind of capability: 0 boolean, 1 number, 2 string.
  * place  the place in the list of that kind, counted from 0.
  *
  * Success gives the bytes of the name in bits 0 to 55, the first byte lowest, and zero bytes after
- * the last one. Refusal 17: the place is beyond the list, or there is no such kind.
+ * the last one. Refusal 17: the place has no name (it is beyond the second edition), or there is no
+ * such kind.
  *
- * Uses at most 1,376 bytes of stack. */
+ * Uses at most 1,736 bytes of stack. */
 uint64_t terminfo_capability(uint8_t kind, size_t place);
 
 /* Expands a parameterized string and writes the output into the buffer from a place on.
@@ -394,7 +399,7 @@ uint64_t terminfo_find(const uint8_t *name, size_t name_length, size_t booleans,
  * place; terminfo_find tells which of them. Refusals, the first that applies, with TERMINFO_REFUSED
  * in bits 48 to 55: 11 (the edition does not know the name), 17 (terminfo_open refuses the file).
  *
- * Uses at most 256 bytes of stack. */
+ * Uses at most 208 bytes of stack. */
 uint64_t terminfo_state(const uint8_t *file, size_t file_length, size_t booleans, size_t numbers,
                         size_t strings, const uint8_t *name, size_t name_length);
 

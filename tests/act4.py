@@ -1,4 +1,10 @@
-"""The text of the Microterm ACT 4 in source document 001, and the file that is dumped there."""
+"""The text of the Microterm ACT 4 in source document 001, and the file that is dumped there.
+
+The dump is a file of the first edition. In the second one the file has 16 booleans, 8 numbers and
+20 strings more, all of them absent.
+"""
+
+SIZE, SECOND_SIZE = 392, 464
 
 TEXT = b"""\
 microterm|act4|microterm act iv,

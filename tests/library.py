@@ -35,7 +35,7 @@ REFUSALS = {
 }
 
 SIZE, POINTER = ctypes.c_size_t, ctypes.c_void_p
-FILE_AND_EDITION = [POINTER, SIZE, SIZE, SIZE, SIZE]
+FILE_AND_EDITION = TEXT_AND_EDITION = [POINTER, SIZE, SIZE, SIZE, SIZE]
 ARGUMENTS = {
     "open": FILE_AND_EDITION + [POINTER],
     "names": FILE_AND_EDITION,
@@ -47,7 +47,7 @@ ARGUMENTS = {
     "write": [SIZE, SIZE, SIZE] + 9 * [POINTER, SIZE],
     "merge": [POINTER, SIZE] + FILE_AND_EDITION + [POINTER, SIZE],
     "capability": [ctypes.c_uint8, SIZE],
-    "compile": [POINTER, SIZE, POINTER, SIZE],
+    "compile": TEXT_AND_EDITION + [POINTER, SIZE],
     "find": [POINTER, SIZE, SIZE, SIZE, SIZE],
     "state": FILE_AND_EDITION + [POINTER, SIZE],
 }
@@ -359,16 +359,16 @@ def model_merge(first, second, edition, room):
 TEXT = Lent(capacity=1 << 16)
 
 
-def compile_text(text, room):
+def compile_text(text, room, edition):
     """The library's answer and the file that it wrote (None if refused)."""
     TEXT.put(text)
-    found = written("compile", [TEXT.address, TEXT.length], room)
+    found = written("compile", [TEXT.address, TEXT.length, *edition], room)
     require(TEXT.kept(), "the text to compile")
     return found
 
 
-def model_compile(text, room):
-    number, values, file = text_model.compile(text, room)
+def model_compile(text, room, edition):
+    number, values, file = text_model.compile(text, room, edition)
     return (len(file), file) if file is not None else (pack(number, *values), None)
 
 

@@ -1,15 +1,22 @@
 """Compiled entries as document 01 defines them: opening, asking, writing, merging, and the lists.
 
-Written from document 01 alone, independently of the library; the tests compare the two.
+Written from documents 01 and 02 alone, independently of the library; the tests compare the two.
 A refused call raises Refusal. An edition is three counts: booleans, numbers, strings.
 """
 
 import struct
 from typing import NamedTuple
 
-# The names of the first edition, in compiled order.
-BOOLEANS = "bw am xsb xhp xenl eo gn hc km hs in da db mir msgr os eslok xt hz ul xon".split()
-NUMBERS = "cols it lines lm xmc pb vt wsl".split()
+# The names in compiled order: those of the first edition (document 01), then those that the second
+# one adds (document 02, 2026-01).
+BOOLEANS = """
+    bw am xsb xhp xenl eo gn hc km hs in da db mir msgr os eslok xt hz ul xon
+    nxon mc5i chts nrrmc npc ndscr ccc bce hls xhpa crxm daisy xvpa sam cpix lpix
+    """.split()
+NUMBERS = """
+    cols it lines lm xmc pb vt wsl
+    nlab lh lw ma wnum colors pairs ncv
+    """.split()
 STRINGS = """
     cbt bel cr csr tbc clear el ed hpa cmdch cup cud1 home civis cub1 mrcup cnorm cuf1 ll cuu1
     cvvis dch1 dl1 dsl hd smacs blink bold smcup smdc dim smir invis prot rev smso smul ech rmacs
@@ -18,9 +25,12 @@ STRINGS = """
     kcub1 kll knp kpp kcuf1 kind kri khts kcuu1 rmkx smkx lf0 lf1 lf10 lf2 lf3 lf4 lf5 lf6 lf7
     lf8 lf9 rmm smm nel pad dch dl cud ich indn il cub cuf rin cuu pfkey pfloc pfx mc0 mc4 mc5
     rep rs1 rs2 rs3 rf rc vpa sc ind ri sgr hts wind ht tsl uc hu
+    iprog ka1 ka3 kb2 kc1 kc3 mc5p rmp acsc pln kcbt smxon rmxon smam rmam xonc xoffc enacs smln
+    rmln
     """.split()
 LISTS = (BOOLEANS, NUMBERS, STRINGS)
 FIRST_EDITION = (21, 8, 138)
+SECOND_EDITION = (37, 16, 158)
 LARGEST_EDITION = (64, 64, 512)
 
 # The kinds of capability, which are also their places in an edition and in LISTS.

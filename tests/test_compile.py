@@ -1,8 +1,8 @@
 """Holds compiling by the library to the vectors, document 01's examples and the model.
 
-The texts that go to library and model are all short ones of some kinds, and generated ones, the
-same in every run. Fails at the first difference, and if a refusal, or a case that NEEDED names,
-never came.
+The texts that go to library and model are all short ones of some kinds, and generated ones in
+editions of all sizes, the same in every run. Fails at the first difference, and if a refusal, or a
+case that NEEDED names, never came.
 """
 
 import sys
@@ -13,14 +13,15 @@ import act4
 import library
 import model
 from library import ROOT, pack
-from model import CANCELLED, PRESENT
-from test_random import below, chance, fixed_size, pick, rng, split, upto
+from model import (ABSENT, CANCELLED, FIRST_EDITION, LARGEST_EDITION, LARGEST_FILE, PRESENT,
+                   SECOND_EDITION)
+from test_random import HUGE, below, chance, fixed_size, pick, rng, split, too_large, upto
 from test_vectors import bytes_of, check_written, lines, same
-from text_model import LARGEST_TEXT
+from text_model import LARGEST_TEXT, NAME
 
 SEED = 138
 GENERATED = 120_000
-REFUSALS = (0, 1, 8, 9, 10, 11, 12, 13)  # 0 is success
+REFUSALS = (0, 1, 3, 8, 9, 10, 11, 12, 13)  # 0 is success
 
 # Counting and comparing
 
@@ -35,18 +36,25 @@ NEEDED += [(0, "number of 99 digits"), (13, "number of 100 digits")]
 NEEDED += [(10, "NUL last"), (0, "no line end last"), (0, "a field twice")]
 NEEDED += [(number, where) for number in (10, 11, 12, 13) for where in ("first field", "later")]
 NEEDED += [(10, "header"), (13, "header"), (10, "column 1")]
+EDITIONS = ("the first edition", "the second edition", "an edition with unnamed places",
+            "another edition")
+NEEDED += [(number, edition) for number in (0, 8, 9, 11) for edition in EDITIONS]
+NEEDED += [(11, "a name of the lists beyond the edition"), (3, "text of more than 16,384 bytes"),
+           (3, "a text that the second edition accepts")]
+NEEDED += [(number, "in a larger edition, accepted in the smaller") for number in (0, 9)]
 
 tally = Counter()
 seen = Counter()
 tags = []  # the cases that the generated text was made for
 
 
-def check(text, room):
+def check(text, room, edition=SECOND_EDITION):
     """Compares library and model; returns the answer and the file that they give."""
-    found, expected = library.compile_text(text, room), library.model_compile(text, room)
+    found = library.compile_text(text, room, edition)
+    expected = library.model_compile(text, room, edition)
     if found != expected:
         print("the library gives", *shown(found), "\nthe model gives", *shown(expected))
-        sys.exit(f"compiling with room {room} of {text} differs")
+        sys.exit(f"compiling in the edition {edition} with room {room} of {text} differs")
     tally[found[0] >> 56] += 1
     return found
 
@@ -56,11 +64,13 @@ def shown(given):
     return hex(answer), file and file.hex()
 
 
-def note(text, room, answer):
+def note(text, room, edition, answer):
     """Counts the cases that a generated text belongs to, by its answer."""
     number, value = answer >> 56, answer & (1 << 56) - 1
     seen.update((number, tag) for tag in tags)
     seen[number, f"text of {len(text)} bytes"] += 1
+    seen[number, "text of more than 16,384 bytes"] += len(text) > LARGEST_TEXT
+    seen[number, words_for(edition)] += 1
     if number == 0:
         seen[0, f"file of {value} bytes"] += 1
         seen[0, "with no room to spare" if value == room else "with room to spare"] += 1
@@ -68,8 +78,23 @@ def note(text, room, answer):
     elif number == 8:
         seen[8, "by one byte" if value == room + 1 else "by more"] += 1
     elif number >= 10:
+        seen[number, "a name of the lists beyond the edition"] += beyond(text, value, edition)
         seen[number, where(text, value)] += 1
         seen[number, "NUL last"] += text.endswith(b"\0") and value == len(text) - 1
+
+
+def words_for(edition):
+    """Which of EDITIONS one is that is not too large."""
+    if edition in (FIRST_EDITION, SECOND_EDITION):
+        return EDITIONS[edition == SECOND_EDITION]
+    return EDITIONS[2 if any(map(int.__gt__, edition, SECOND_EDITION)) else 3]
+
+
+def beyond(text, place, edition):
+    """Whether the field at a place has a name of the lists that the edition doesn't know."""
+    name = NAME.match(text, place)
+    return name is not None and any(name[0].decode("ascii") in names[known:]
+                                    for names, known in zip(model.LISTS, edition))
 
 
 def where(text, place):
@@ -86,7 +111,7 @@ def where(text, place):
 def run_vectors():
     total = 0
     for line, given, out in lines("compile"):
-        arguments = bytes_of(given["text"]), given["room"]
+        arguments = bytes_of(given["text"]), given["room"], given["edition"]
         check_written(line, library.compile_text(*arguments), library.model_compile(*arguments),
                       out)
         total += 1
@@ -96,10 +121,15 @@ def run_vectors():
 def run_act4():
     same((ROOT / "examples" / "act4.ti").read_bytes(), act4.TEXT, "examples/act4.ti")
     file = act4.dumped()
-    same(len(file), 392, "bytes of the dump")
+    same(len(file), act4.SIZE, "bytes of the dump")
     for room in (392, 393, 4096):
-        same(check(act4.TEXT, room), (392, file), f"act4 with room {room}")
-    same(check(act4.TEXT, 391), (pack(8, 392), None), "act4 with room 391")
+        same(check(act4.TEXT, room, FIRST_EDITION), (392, file), f"act4 with room {room}")
+    same(check(act4.TEXT, 391, FIRST_EDITION), (pack(8, 392), None), "act4 with room 391")
+    answer, second = check(act4.TEXT, 4096)
+    same(answer, act4.SECOND_SIZE, "act4 in the second edition")
+    names, states = library.contents(file, FIRST_EDITION)
+    same(library.contents(second, SECOND_EDITION), (names, extended(states, SECOND_EDITION)),
+         "act4 in the second edition")
 
 
 HEADER = b"a|b,\n\t"
@@ -157,6 +187,29 @@ FIELDS = [
     (b"use=\\a,", (10, 0)), (b"use,", (11, 0)), (b"use@,", (11, 0)), (b"use#1,", (11, 0)),
     (b"zz, am", (11, 0)), (b"am, zz, am", (11, 4)),
 ]
+# Fields of names that not all editions know, with the edition.
+EDITION_FIELDS = [
+    (b"colors#8, pairs#0x40,", SECOND_EDITION, {"colors": 8, "pairs": 64}),
+    (b"bce, lpix@, ncv@, acsc=``aa, rmln=\\E,", SECOND_EDITION,
+     {"bce": None, "lpix": CANCEL, "ncv": CANCEL, "acsc": b"``aa", "rmln": b"\x1b"}),
+    (b"am, colors#8,", FIRST_EDITION, (11, 4)), (b"colors@,", FIRST_EDITION, (11, 0)),
+    (b"nxon,", FIRST_EDITION, (11, 0)), (b"iprog=x,", FIRST_EDITION, (11, 0)),
+    (b"xon, wsl#1, hu=x,", FIRST_EDITION, {"xon": None, "wsl": 1, "hu": b"x"}),
+    (b"colors#99999,", FIRST_EDITION, (11, 0)), (b"colors#99999,", SECOND_EDITION, (13, 0)),
+    (b"colors#08,", FIRST_EDITION, (10, 0)), (b".colors#8, am,", FIRST_EDITION, {"am": None}),
+    (b"colors,", SECOND_EDITION, (11, 0)), (b"colors=8,", SECOND_EDITION, (11, 0)),
+    (b"color#8,", SECOND_EDITION, (11, 0)), (b"colors7#8,", SECOND_EDITION, (11, 0)),
+    (b"colors#8,", (37, 13, 158), (11, 0)), (b"colors#8,", (0, 14, 0), {"colors": 8}),
+    (b"am,", (1, 8, 138), (11, 0)), (b"am@,", (2, 0, 0), {"am": CANCEL}),
+    (b"cr=a,", (64, 64, 2), (11, 0)), (b"cr=a,", (0, 0, 3), {"cr": b"a"}),
+    (b"am, ncv#3, rmln=x,", LARGEST_EDITION, {"am": None, "ncv": 3, "rmln": b"x"}),
+    (b"kf11=x,", LARGEST_EDITION, (11, 0)), (b".am,", (0, 0, 0), {}), (b"am,", (0, 0, 0), (11, 0)),
+    (b"use=x,", (0, 0, 0), (12, 0)), (b"", (0, 0, 0), {}), (b"", (38, 17, 159), {}),
+]
+# Editions that are too large, which is judged before the text.
+TOO_LARGE = [(65, 64, 512), (64, 65, 512), (64, 64, 513), (65, 0, 0), (0, 65, 0), (0, 0, 513)]
+TOO_LARGE += [tuple(huge if kind == at else 0 for kind in range(3))
+              for huge in HUGE[1:] for at in range(3)]
 # Whole texts: names, or a refusal and its place (None: it gives none).
 TEXTS = [
     (b"a|b,", b"a|b"), (b"a|b,\n", b"a|b"), (b"a|b, \t", b"a|b"), (b"a|b,\0", (10, 0)),
@@ -178,33 +231,45 @@ TEXTS = [
 
 
 def run_examples():
-    for fields, expected in FIELDS:
-        answer, file = check(HEADER + fields, 4096)
+    both = [(given, edition, expected) for edition in (FIRST_EDITION, SECOND_EDITION)
+            for given, expected in FIELDS]
+    for fields, edition, expected in both + EDITION_FIELDS:
+        answer, file = check(HEADER + fields, 4096, edition)
         if isinstance(expected, tuple):
             number, place = expected
             same(answer, pack(number, FIELD + place), fields)
         else:
-            same(file and library.contents(file, model.FIRST_EDITION),
-                 (b"a|b", states_of(expected)), fields)
+            same(file and library.contents(file, edition), (b"a|b", states_of(expected, edition)),
+                 fields)
     for text, expected in TEXTS:
         answer, file = check(text, 4096)
         if isinstance(expected, tuple):
             number, place = expected
             same(answer, pack(number, place or 0), text)
         else:
-            same(file and library.contents(file, model.FIRST_EDITION),
-                 (expected, states_of({})), text)
-    return len(FIELDS) + len(TEXTS)
+            same(file and library.contents(file, SECOND_EDITION),
+                 (expected, states_of({}, SECOND_EDITION)), text)
+    for edition in TOO_LARGE:
+        for text in (b"a|b,", b"", b"a|b,\n\tzz,", 16385 * b"\0"):
+            same(check(text, pick(0, 4096), edition), (pack(3), None), edition)
+    return len(both) + len(EDITION_FIELDS) + len(TEXTS) + 4 * len(TOO_LARGE)
 
 
-def states_of(given):
-    """All states of the first edition, where those given by name aren't absent."""
+def extended(states, edition):
+    """All states of an edition, where those that aren't given are absent."""
+    return {(kind, place): states.get((kind, place), (ABSENT, None))
+            for kind, known in enumerate(edition) for place in range(known)}
+
+
+def states_of(given, edition):
+    """All states of an edition, where those given by name aren't absent."""
     states = {}
     for kind, names in enumerate(model.LISTS):
         for place, name in enumerate(names):
-            state = given.get(name, (model.ABSENT, None))
-            states[kind, place] = state if isinstance(state, tuple) else (PRESENT, state)
-    return states
+            if name in given:
+                state = given[name]
+                states[kind, place] = state if isinstance(state, tuple) else (PRESENT, state)
+    return extended(states, edition)
 
 
 # All short texts of some kinds
@@ -358,18 +423,21 @@ def form(kind):
     return b"#" + some_number() if kind == model.NUMBER else b"=" + some_string()
 
 
-def capability(kind):
-    return pick(*model.LISTS[kind]).encode("ascii")
+def capability(kind, edition):
+    """A name of the edition, or, now and then or where it knows none of the kind, of the lists."""
+    listed = model.LISTS[kind]
+    known = listed[:edition[kind]]
+    return pick(*(known if known and chance() < 0.99 else listed)).encode("ascii")
 
 
-def field():
+def field(edition):
     """A field whose form is right and whose name is known, or that is dropped."""
     if chance() < 0.06:
-        name = pick(some(NAME_BYTES, 1 + below(8)), capability(below(3)), b"use", b".")
+        name = pick(some(NAME_BYTES, 1 + below(8)), capability(below(3), edition), b"use", b".")
         large = b"#" + number(pick(*LARGE_VALUES))
         return b"." + name + pick(b"", b"@", large, form(below(3)), form(model.STRING)) + b","
-    kind = pick(0, 0, 1, 2, 2, 2)
-    return capability(kind) + form(kind) + b","
+    kind = pick(*[kind for kind in (0, 0, 1, 2, 2, 2) if edition[kind]] or [0])
+    return capability(kind, edition) + form(kind) + b","
 
 
 # Fields that are refused, most of them with 10, 11 and 12 in this order.
@@ -394,24 +462,29 @@ UNKNOWN = [
 USE = [b"use=,", b"use=x,", b"use=vt100,", b"use=\\0,", b"use=a\n\tb,", b"use=" + LONG + b","]
 
 
-def past_limit():
+def past_limit(edition):
     if chance() < 0.5:
-        return pick(b"it#", b"cols#", b"lm#") + number(pick(*LARGE_VALUES)) + b","
-    return capability(2) + b"=" + string(pick(1001, 1001, 1002, 1100), 0.97) + b","
+        return capability(1, edition) + b"#" + number(pick(*LARGE_VALUES)) + b","
+    return capability(2, edition) + b"=" + string(pick(1001, 1001, 1002, 1100), 0.97) + b","
 
 
-def wrong_field():
-    made = pick(*pick(MALFORMED, MALFORMED, UNKNOWN, USE, [past_limit()]))
+def wrong_field(edition):
+    made = pick(*pick(MALFORMED, MALFORMED, UNKNOWN, USE, [past_limit(edition)]))
     return b"." + made if chance() < 0.08 else made
 
 
-def fill():
-    """String fields that make a file of 4,094 to 4,098 bytes under names of three bytes."""
-    total = pick(4094, 4095, 4096, 4096, 4097, 4097, 4098) - fixed_size(4, model.FIRST_EDITION)
+def fill(edition):
+    """String fields that make a file of 4,094 to 4,098 bytes under names of three bytes.
+
+    None where the edition names too few strings for that.
+    """
+    total = pick(4094, 4095, 4096, 4096, 4097, 4097, 4098) - fixed_size(4, edition)
+    names = model.STRINGS[:edition[2]]
     count = pick(4, 4, 5, 10, 60)
-    chosen = rng.sample(model.STRINGS, count)
+    if count > len(names) or not count <= total <= 1001 * count:
+        return []
     return [name.encode("ascii") + b"=" + string(size - 1, 0.95) + b","
-            for name, size in zip(chosen, split(total, count, 1001))]
+            for name, size in zip(rng.sample(names, count), split(total, count, 1001))]
 
 
 def laid_out(fields):
@@ -497,14 +570,38 @@ DAMAGES = [insert, insert, insert, remove, remove, change, change, cut, unindent
            indent_header, longer_alias, one_name, second_header]
 
 
-def pick_text():
-    """A text with no, one or two defects."""
-    full = chance() < 0.03
-    fields = fill() if full else [field() for _ in range(pick(0, 1, 2, 4, 8, below(25)))]
+def pick_edition():
+    """The second edition, the first, larger ones, smaller ones, and some that are too large."""
+    form = chance()
+    if form < 0.4:
+        return SECOND_EDITION
+    if form < 0.6:
+        return FIRST_EDITION
+    if form < 0.7:
+        return larger(SECOND_EDITION)
+    if form < 0.83:
+        return tuple(upto(count) for count in SECOND_EDITION)
+    if form < 0.97:
+        return tuple(pick(0, count, upto(most)) for count, most in zip(SECOND_EDITION,
+                                                                       LARGEST_EDITION))
+    return too_large(pick(FIRST_EDITION, SECOND_EDITION, (0, 0, 0)))
+
+
+def larger(edition):
+    """An edition that knows no less, and is not too large."""
+    return tuple(pick(known, known + 1, most, known + upto(most - known)) if known < most else most
+                 for known, most in zip(edition, LARGEST_EDITION))
+
+
+def pick_text(edition):
+    """A text with no, one or two defects, for an edition."""
+    fields = fill(edition) if chance() < 0.03 else []
+    full = bool(fields)
+    fields = fields or [field(edition) for _ in range(pick(0, 1, 2, 4, 8, below(25)))]
     defects = pick(0, 0, 0, 0, 0, 1, 1, 1, 2)
     wrong = upto(defects)
     for _ in range(wrong):
-        fields.insert(pick(0, upto(len(fields)), len(fields)), wrong_field())
+        fields.insert(pick(0, upto(len(fields)), len(fields)), wrong_field(edition))
     if fields and chance() < 0.1:
         tags.append("a field twice")
         fields.insert(upto(len(fields)), pick(*fields))
@@ -521,14 +618,32 @@ def check_generated():
     rng.seed(SEED)
     for _ in range(GENERATED):
         tags.clear()
-        text = pick_text()
+        edition = pick_edition()
+        text = pick_text(edition)
         room = 0
-        answer, _ = check(text, room)
+        answer, _ = check(text, room, edition)
         if answer >> 56 == 8:
             needed = answer - pack(8)
             room = max(0, needed + pick(-1, 0, 0, 0, 1, 1, 2, below(5000), -upto(needed)))
-            answer, _ = check(text, room)
-        note(text, room, answer)
+            answer, _ = check(text, room, edition)
+            if chance() < 0.05 or needed > 4000:
+                check_larger(text, edition)
+        note(text, room, edition, answer)
+        if answer >> 56 == 3 and check(text, LARGEST_FILE)[1] is not None:
+            seen[3, "a text that the second edition accepts"] += 1
+
+
+def check_larger(text, edition):
+    """A larger edition gives the same names and states, the others absent, unless 9 applies."""
+    _, file = check(text, LARGEST_FILE, edition)
+    names, states = library.contents(file, edition)
+    after = larger(edition)
+    answer, file = check(text, LARGEST_FILE, after)
+    seen[answer >> 56, "in a larger edition, accepted in the smaller"] += 1
+    if file is None:
+        same(answer, pack(9), text)
+    else:
+        same(library.contents(file, after), (names, extended(states, after)), text)
 
 
 def report():

@@ -43,7 +43,8 @@ static void example(void) {
     assert(terminfo_kind(answers[6]) == TERMINFO_REFUSED && answers[7] == answers[6]);
 }
 
-/* Lists every state of an entry, writes what is listed, and gets the entry again. */
+/* Lists every state of an entry of the first edition, writes what is listed, and gets the entry
+ * again. */
 static void listing(void) {
     const char *text = "l|listed,\n\tam, cols#80, it@, bel=^G, cr@,\n";
     uint8_t file[400], again[400], booleans[22], numbers[8], strings[138];
@@ -51,7 +52,8 @@ static void listing(void) {
     size_t starts[138], lengths[138], length;
     uint64_t answer;
 
-    length = (size_t)terminfo_compile((const uint8_t *)text, strlen(text), file, sizeof file);
+    length = (size_t)terminfo_compile((const uint8_t *)text, strlen(text), TERMINFO_FIRST_EDITION,
+                                      file, sizeof file);
     assert(length < sizeof file);
     memset(booleans, 9, sizeof booleans);
     answer = terminfo_list(file, length, 21, 8, 138, booleans, 22, numbers, 8, values, 8, strings,
@@ -149,24 +151,32 @@ static void expanding(void) {
     assert(!memcmp(buffer, "-05[1;1H........", sizeof buffer) && lasting[1] == -5);
 }
 
-/* The state of a capability by its name, in the first edition. */
+/* The state of a capability by its name, in the second edition. */
 static uint64_t named(const uint8_t *file, size_t length, const char *name) {
-    return terminfo_state(file, length, TERMINFO_FIRST_EDITION, (const uint8_t *)name, strlen(name));
+    return terminfo_state(file, length, TERMINFO_SECOND_EDITION, (const uint8_t *)name,
+                          strlen(name));
+}
+
+/* Compiles a text of C in an edition. */
+static uint64_t compile(const char *text, size_t booleans, size_t numbers, size_t strings,
+                        uint8_t *buffer, size_t room) {
+    return terminfo_compile((const uint8_t *)text, strlen(text), booleans, numbers, strings, buffer,
+                            room);
 }
 
 /* A text compiled and read back, and a field that is refused with its place. */
 static void compiling(void) {
     const char *text = "a|console a,\n\tam, cols#0x50, bel@, cr=^M,\n";
     const char *wrong = "a|console a,\n\tam, colums#80,\n";
-    uint8_t buffer[400];
+    uint8_t buffer[480];
     uint64_t answer;
     size_t length;
 
     memset(buffer, '.', sizeof buffer);
-    answer = terminfo_compile((const uint8_t *)wrong, strlen(wrong), buffer, sizeof buffer);
+    answer = compile(wrong, TERMINFO_SECOND_EDITION, buffer, sizeof buffer);
     assert(terminfo_refusal(answer) == 11 && terminfo_value(answer) == 18);
     assert(buffer[0] == '.');
-    answer = terminfo_compile((const uint8_t *)text, strlen(text), buffer, sizeof buffer);
+    answer = compile(text, TERMINFO_SECOND_EDITION, buffer, sizeof buffer);
     assert(terminfo_refusal(answer) == 0);
     length = (size_t)terminfo_value(answer);
     assert(length < sizeof buffer && buffer[length] == '.');
@@ -182,7 +192,64 @@ static void compiling(void) {
     assert(terminfo_value(named(buffer, length, "cols")) == 80);
     assert(terminfo_kind(named(buffer, length, "am")) == TERMINFO_PRESENT);
     assert(terminfo_kind(named(buffer, length, "bw")) == TERMINFO_ABSENT);
-    assert(terminfo_refusal(terminfo_compile((const uint8_t *)text, strlen(text), buffer, 14)) == 8);
+    answer = compile(text, TERMINFO_SECOND_EDITION, buffer, 14);
+    assert(terminfo_refusal(answer) == 8 && terminfo_value(answer) == length);
+}
+
+/* The counts of both editions, a text that one of them does not know, its file read by the other,
+ * and editions without a name for each place, without any place, and too large. */
+static void editions(void) {
+    static const size_t first[3] = {TERMINFO_FIRST_EDITION}, second[3] = {TERMINFO_SECOND_EDITION};
+    static uint8_t buffer[4096], spaces[16385];
+    const char *text = "a|console a,\n\tam, bce, colors#8, cr=^M, acsc=``aa,\n";
+    const char *older = "a|console a,\n\tam, cr=^M,\n";
+    uint64_t answer, tables[10];
+    size_t length;
+
+    assert(first[0] == 21 && first[1] == 8 && first[2] == 138);
+    assert(first[0] == TERMINFO_FIRST_BOOLEANS && first[0] == TERMINFO_XON + 1);
+    assert(first[1] == TERMINFO_FIRST_NUMBERS && first[1] == TERMINFO_WSL + 1);
+    assert(first[2] == TERMINFO_FIRST_STRINGS && first[2] == TERMINFO_HU + 1);
+    assert(second[0] == 37 && second[1] == 16 && second[2] == 158);
+    assert(second[0] == TERMINFO_SECOND_BOOLEANS && second[0] == TERMINFO_LPIX + 1);
+    assert(second[1] == TERMINFO_SECOND_NUMBERS && second[1] == TERMINFO_NCV + 1);
+    assert(second[2] == TERMINFO_SECOND_STRINGS && second[2] == TERMINFO_RMLN + 1);
+
+    answer = compile(text, TERMINFO_FIRST_EDITION, buffer, sizeof buffer);
+    assert(terminfo_refusal(answer) == TERMINFO_REFUSED_UNKNOWN && terminfo_value(answer) == 18);
+    length = (size_t)compile(text, TERMINFO_SECOND_EDITION, buffer, sizeof buffer);
+    assert(terminfo_kind(named(buffer, length, "bce")) == TERMINFO_PRESENT);
+    assert(terminfo_value(named(buffer, length, "colors")) == 8);
+    answer = terminfo_string(buffer, length, TERMINFO_SECOND_EDITION, TERMINFO_ACSC);
+    assert(terminfo_length(answer) == 4 && !memcmp(buffer + terminfo_start(answer), "``aa", 4));
+    assert(terminfo_open(buffer, length, TERMINFO_FIRST_EDITION, tables) == 0);
+    assert(tables[7] == 16 && tables[8] == 8 && tables[9] == 20);
+    answer = terminfo_string(buffer, length, TERMINFO_FIRST_EDITION, TERMINFO_CR);
+    assert(terminfo_kind(answer) == TERMINFO_PRESENT && buffer[terminfo_start(answer)] == 13);
+    answer = terminfo_number(buffer, length, TERMINFO_FIRST_EDITION, TERMINFO_COLORS);
+    assert(terminfo_refusal(answer) == TERMINFO_REFUSED_PLACE);
+
+    length = (size_t)compile(older, TERMINFO_FIRST_EDITION, buffer, sizeof buffer);
+    assert(terminfo_open(buffer, length, TERMINFO_SECOND_EDITION, tables) == 0);
+    assert(tables[0] == 21 && tables[7] == 0 && tables[8] == 0 && tables[9] == 0);
+    assert(terminfo_kind(named(buffer, length, "am")) == TERMINFO_PRESENT);
+    assert(named(buffer, length, "colors") == 0 && named(buffer, length, "bce") == 0);
+
+    length = (size_t)compile(text, 64, 64, 512, buffer, sizeof buffer);
+    assert(terminfo_open(buffer, length, 64, 64, 512, tables) == 0);
+    assert(tables[0] == 64 && tables[1] == 64 && tables[2] == 512);
+    assert(terminfo_string(buffer, length, 64, 64, 512, 511) == 0);
+    assert(compile("a|b,\n", 0, 0, 0, buffer, sizeof buffer) == 16);
+
+    buffer[0] = '.';
+    memset(spaces, ' ', sizeof spaces);
+    answer = terminfo_compile(spaces, sizeof spaces, 65, 64, 512, buffer, 0);
+    assert(terminfo_refusal(answer) == TERMINFO_REFUSED_COUNTS && terminfo_value(answer) == 0);
+    assert(terminfo_refusal(compile(text, 64, 65, 512, buffer, sizeof buffer)) == 3);
+    assert(terminfo_refusal(compile("", 64, 64, 513, buffer, sizeof buffer)) == 3);
+    assert(terminfo_refusal(compile("", SIZE_MAX, SIZE_MAX, SIZE_MAX, buffer, 0)) == 3);
+    answer = terminfo_compile(spaces, sizeof spaces, 64, 64, 512, buffer, 0);
+    assert(terminfo_refusal(answer) == TERMINFO_REFUSED_LENGTH && buffer[0] == '.');
 }
 
 /* Refusals, and the name of a capability, both ways. */
@@ -195,10 +262,10 @@ static void refusals(void) {
     const size_t no_size[1] = {0};
     char name[8];
 
-    assert(terminfo_open(file, 14, TERMINFO_FIRST_EDITION, tables) == 0);
-    answer = terminfo_open(file, 13, TERMINFO_FIRST_EDITION, tables);
+    assert(terminfo_open(file, 14, TERMINFO_SECOND_EDITION, tables) == 0);
+    answer = terminfo_open(file, 13, TERMINFO_SECOND_EDITION, tables);
     assert(terminfo_refusal(answer) == TERMINFO_REFUSED_LENGTH);
-    answer = terminfo_number(file, 14, TERMINFO_FIRST_EDITION, TERMINFO_FIRST_NUMBERS);
+    answer = terminfo_number(file, 14, TERMINFO_SECOND_EDITION, TERMINFO_SECOND_NUMBERS);
     assert(terminfo_refusal(answer) == TERMINFO_REFUSED_PLACE);
     assert(terminfo_kind(answer) == TERMINFO_REFUSED);
     answer = named(file, 13, "cols");
@@ -220,7 +287,14 @@ static void refusals(void) {
     answer = terminfo_find((const uint8_t *)name, 4, 21, 8, TERMINFO_KF10);
     assert(terminfo_refusal(answer) == TERMINFO_REFUSED_UNKNOWN);
     assert(terminfo_kind(answer) == TERMINFO_REFUSED);
-    assert(terminfo_refusal(terminfo_capability(TERMINFO_NUMBER, 8)) == 17);
+    answer = terminfo_capability(TERMINFO_NUMBER, TERMINFO_COLORS);
+    memcpy(name, &answer, sizeof name);
+    assert(!strcmp(name, "colors"));
+    answer = terminfo_find((const uint8_t *)name, 6, TERMINFO_SECOND_EDITION);
+    assert(terminfo_kind(answer) == TERMINFO_NUMBER && terminfo_value(answer) == TERMINFO_COLORS);
+    answer = terminfo_find((const uint8_t *)name, 6, TERMINFO_FIRST_EDITION);
+    assert(terminfo_refusal(answer) == TERMINFO_REFUSED_UNKNOWN);
+    assert(terminfo_refusal(terminfo_capability(TERMINFO_NUMBER, TERMINFO_SECOND_NUMBERS)) == 17);
 }
 
 int main(void) {
@@ -229,6 +303,7 @@ int main(void) {
     merging();
     expanding();
     compiling();
+    editions();
     refusals();
 #ifdef __cplusplus
     puts("the example works in C++");

@@ -130,7 +130,9 @@ def check_alone():
     (away / "twice").symlink_to(away / "linked")
     for ti in (copy / "bin/ti", "../copy/bin/ti", away / "linked", "./twice"):
         out, errors = run([ti, "compile", "act4"], cwd=away, text=act4.TEXT, PATH=PATH)
-        same((out, errors), ("compiled: 392 bytes\n", ""), ti)
+        same((out, errors), (f"compiled: {act4.SECOND_SIZE} bytes\n", ""), ti)
+        out, errors = run([ti, "compile", "-e", "1", "act4"], cwd=away, text=act4.TEXT, PATH=PATH)
+        same((out, errors), (f"compiled: {act4.SIZE} bytes\n", ""), ti)
         same((away / "act4").read_bytes(), act4.dumped(), "act4")
         same(run([ti, "expand", "act4", "cup", 5, 70], cwd=away, PATH=PATH), ("\x14\x05F", ""), ti)
     ti = copy / "bin/ti"

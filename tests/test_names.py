@@ -1,8 +1,9 @@
 """The constants of include/terminfo_names.h against the library: each has the place that its name has.
 
-First, that the header is what include/generate writes. Then its constants, as a C compiler sees
-them, against terminfo_capability at every place of the three lists, and terminfo_find of every name
-in the first edition, in one that ends before the name's place and in one that ends with it.
+First, that the header is what include/generate writes, and the counts of both editions. Then its
+constants, as a C compiler sees them, against terminfo_capability at every place of the three lists,
+and terminfo_find of every name in both editions, in one that ends before the name's place and in one
+that ends with it.
 """
 
 import re
@@ -15,6 +16,8 @@ import model
 
 HEADER = library.ROOT / "include" / "terminfo_names.h"
 PREFIX = "TERMINFO_"
+EDITIONS = {"FIRST": model.FIRST_EDITION, "SECOND": model.SECOND_EDITION}
+UNKNOWN = library.pack(11, kind=library.REFUSED)
 ENUM = re.compile(r"^enum \{\n(.*?)^\};$", re.MULTILINE | re.DOTALL)
 
 
@@ -34,15 +37,17 @@ def values(constants):
 
 
 def check(kind, place, constant):
-    """One constant: its place's name, and its name's place in three editions."""
+    """One constant: its place's name, and its name's place in four editions."""
     name = constant.removeprefix(PREFIX).lower().encode()
     packed, = struct.unpack("<Q", name.ljust(8, b"\0"))
     same(library.capability(kind, place), packed, f"{constant}, the name of its place")
     there = library.pack(kind=kind, value=place)
-    same(library.find(name, model.FIRST_EDITION), there, f"{constant}, the place of its name")
     edition = [0, 0, 0]
-    for edition[kind], expected in (place, library.pack(11, kind=library.REFUSED)), (place + 1, there):
+    for edition[kind], expected in (place, UNKNOWN), (place + 1, there):
         same(library.find(name, edition), expected, f"{constant} in the edition {edition}")
+    for edition in EDITIONS.values():
+        same(library.find(name, edition), there if place < edition[kind] else UNKNOWN,
+             f"{constant} in the edition {edition}")
 
 
 def main():
@@ -50,9 +55,12 @@ def main():
     text = HEADER.read_text(encoding="utf-8")
     enums = [re.findall(r"\w+(?= =)", enum) for enum in ENUM.findall(text)]
     same(len(enums), len(model.LISTS), "enums")
-    edition = "#define TERMINFO_FIRST_EDITION " + ", ".join(map(str, model.FIRST_EDITION))
-    same(edition in text, True, edition)
-    for kind, (constants, count) in enumerate(zip(enums, model.FIRST_EDITION)):
+    for name, edition in EDITIONS.items():
+        given = f"#define {PREFIX}{name}_EDITION " + ", ".join(map(str, edition)) + "\n"
+        same(given in text, True, given)
+        counts = [f"{PREFIX}{name}_{kind}S" for kind in ("BOOLEAN", "NUMBER", "STRING")]
+        same(values(counts), list(edition), f"counts of {name}")
+    for kind, (constants, count) in enumerate(zip(enums, model.SECOND_EDITION)):
         same(len(constants), count, f"constants of kind {kind}")
         same(values(constants), list(range(count)), f"constants of kind {kind}")
         for place, constant in enumerate(constants):

@@ -1,10 +1,12 @@
 """Compares the library with ncurses: entries that tic compiles and entries that are installed.
 
-The order of the lists is held to what tic compiles for each capability alone. Of installed
-entries, and of the same ones compiled again without an extended section, every capability of the
-first edition is held to what infocmp prints. The library compiles the source text of the same
-entries, and infocmp must print the same capabilities for its files. No entry is left out: where
-document 01 refuses a file or its names, that refusal is checked.
+The order of the lists is held to what tic compiles for each capability alone, and so are the files
+that the library compiles of the same texts. Of installed entries, and of the same ones compiled
+again without an extended section, every capability of the second edition is held to what infocmp
+prints. The library compiles the source text of the same entries, and infocmp must print the same
+capabilities for its files; compiled in the first and in the second edition, each is read by the
+other. No entry is left out: where document 01 refuses a file, its names or a number, that refusal
+is checked.
 """
 
 import os
@@ -19,7 +21,8 @@ import act4
 import library
 import model
 import text_model
-from library import Reader, part_of, state_of
+from library import Reader, contents, pack, part_of, state_of
+from model import FIRST_EDITION, LARGEST_FILE, LARGEST_SHORT, SECOND_EDITION
 
 ENVIRONMENT = {"PATH": os.environ["PATH"], "LC_ALL": "C"}
 ESCAPES = {"E": 27, "e": 27, "n": 10, "l": 10, "r": 13, "t": 9, "b": 8, "f": 12, "s": 32}
@@ -96,15 +99,24 @@ def fields(text):
     return header.removesuffix(b","), states
 
 
+def in_order(name, state):
+    """The state as infocmp prints it: the pairs of acsc in order."""
+    kind, content = state
+    if name != "acsc" or kind != model.PRESENT:
+        return state
+    pairs = [content[at:at + 2] for at in range(0, len(content), 2)]
+    return kind, b"".join(sorted(pairs, key=lambda pair: pair[0]))
+
+
 def opened(file):
-    """The refusal of a file in the first edition, or 0, its names and the states not absent."""
-    reader = Reader(file, model.FIRST_EDITION)
+    """The refusal of a file in the second edition, or 0, its names and the states not absent."""
+    reader = Reader(file, SECOND_EDITION)
     answer, _ = reader.open()
     if answer:
         return answer >> 56, None, None
     names = part_of(file, reader.names())
     states = {}
-    for kind, count in enumerate(model.FIRST_EDITION):
+    for kind, count in enumerate(SECOND_EDITION):
         for place in range(count):
             answer = reader.state(kind, place)
             if answer >> 56:
@@ -116,36 +128,64 @@ def opened(file):
 
 def capabilities():
     """Kind, place and name of every capability, by the library."""
-    for kind, count in enumerate(model.FIRST_EDITION):
+    for kind, count in enumerate(SECOND_EDITION):
         for place in range(count):
             name = library.capability(kind, place).to_bytes(8, "little").rstrip(b"\0")
             yield kind, place, name.decode("ascii")
 
 
 CAPABILITIES = list(capabilities())
+NEW = [(kind, place, name) for kind, place, name in CAPABILITIES if place >= FIRST_EDITION[kind]]
+CANCEL = (model.CANCELLED, None)
+
+
+def field_of(kind, place, name):
+    """A field with a content of its own for a capability, and its state."""
+    return {
+        model.BOOLEAN: (name, (model.PRESENT, None)),
+        model.NUMBER: (f"{name}#{place + 1}", (model.PRESENT, place + 1)),
+        model.STRING: (f"{name}={name}", (model.PRESENT, name.encode())),
+    }[kind]
+
+
+def ordered():
+    """Entries and their fields and states: each capability present and cancelled, alone.
+
+    All of them, and all that the first edition doesn't know, present, cancelled, and by turns.
+    """
+    for kind, place, name in CAPABILITIES:
+        field, state = field_of(kind, place, name)
+        yield f"present-{kind}-{place}", [field], {(kind, place): state}
+        yield f"cancel-{kind}-{place}", [name + "@"], {(kind, place): CANCEL}
+    for which, some in (("all", CAPABILITIES), ("new", NEW)):
+        for form, cancels in (("present", ()), ("cancelled", (0, 1)), ("turns", (0,)),
+                              ("others", (1,))):
+            fields_made, states = [], {}
+            for at, (kind, place, name) in enumerate(some):
+                field, state = field_of(kind, place, name)
+                cancelled = at % 2 in cancels
+                fields_made.append(name + "@" if cancelled else field)
+                states[kind, place] = CANCEL if cancelled else state
+            yield f"{which}-{form}", fields_made, states
 
 
 def check_order(folder):
-    """Each capability alone in an entry, present and (numbers and strings) cancelled."""
-    text, expected = b"", {}
-    for kind, place, name in CAPABILITIES:
-        content, state = {
-            model.BOOLEAN: ("", (model.PRESENT, None)),
-            model.NUMBER: (f"#{place + 1}", (model.PRESENT, place + 1)),
-            model.STRING: (f"={name}", (model.PRESENT, name.encode())),
-        }[kind]
-        forms = [("present", content, state)]
-        if kind != model.BOOLEAN:
-            forms.append(("cancelled", "@", (model.CANCELLED, None)))
-        for form, field, state in forms:
-            entry = f"{form}-{kind}-{place}"
-            text += f"{entry}|an entry with {name} alone,\n\t{name}{field},\n".encode()
-            expected[entry] = {(kind, place): state}
-    compile_text(text, folder)
+    """What tic and the library compile of each entry; tic leaves cancelled booleans absent."""
+    texts, expected = {}, {}
+    for entry, fields_made, states in ordered():
+        lines = "".join(f"\t{field},\n" for field in fields_made)
+        texts[entry] = f"{entry}|an entry of {len(states)},\n{lines}".encode()
+        expected[entry] = states
+    compile_text(b"".join(texts.values()), folder)
     for entry, states in expected.items():
-        refused, names, found = opened(compiled(folder, entry))
-        if refused or found != states or not names.startswith(entry.encode() + b"|"):
-            fail(entry, "of tic: refusal", refused, "names", names, "states", found)
+        by_tic = {at: state for at, state in states.items() if (at[0], state) != (0, CANCEL)}
+        answer, file = library.compile_text(texts[entry], LARGEST_FILE, SECOND_EDITION)
+        if file is None:
+            fail(entry, "is refused", hex(answer))
+        for by, of, right in (("tic", compiled(folder, entry), by_tic), ("us", file, states)):
+            refused, names, found = opened(of)
+            if refused or found != right or not names.startswith(entry.encode() + b"|"):
+                fail(entry, "by", by, "refusal", refused, "names", names, "states", found)
     return len(expected)
 
 
@@ -158,7 +198,7 @@ def check_entry(where, file, text):
     if names != expected_names:
         fail(where, "names", names, "instead of", expected_names)
     for kind, place, name in CAPABILITIES:
-        state = found.get((kind, place), (model.ABSENT, None))
+        state = in_order(name, found.get((kind, place), (model.ABSENT, None)))
         expected = states.get(name, (model.ABSENT, None))
         if state != expected:
             fail(where, name, state, "instead of", expected)
@@ -214,12 +254,20 @@ def check_installed(folder, entries):
         for form, outcome in outcomes.items())
 
 
-def of_edition(text):
-    """Names, and the lines of the first edition's capabilities, in what infocmp -1 prints."""
-    known = {name for _, _, name in CAPABILITIES}
+def of_edition(text, edition):
+    """Names, and the lines of an edition's capabilities, in what infocmp -1 prints."""
+    known = {name for kind, place, name in CAPABILITIES if place < edition[kind]}
     header, *lines = [line for line in text.split(b"\n") if line and not line.startswith(b"#")]
     return header.removesuffix(b","), [
         line for line in lines if re.match(rb"\t([^=#@,]+)", line)[1].decode("ascii") in known]
+
+
+def cut_number(line):
+    """A line whose number, if it has one, is at most 32,767."""
+    number = re.fullmatch(rb"(\t[^=#@,]+#)(\w+),", line)
+    if number is None or int(number[2], 0) <= LARGEST_SHORT:
+        return line
+    return number[1] + b"%d," % LARGEST_SHORT
 
 
 def cut(names):
@@ -238,7 +286,7 @@ def check_printed(folder, text, lines):
 
     The same text in lines of one field each says what that must be.
     """
-    answer, file = library.compile_text(text, model.LARGEST_FILE)
+    answer, file = library.compile_text(text, LARGEST_FILE, SECOND_EDITION)
     if file is None:
         fail(text, "is refused", hex(answer))
     names, states = fields(lines)
@@ -253,10 +301,38 @@ def check_printed(folder, text, lines):
         fail(first, "compiled by the library is refused", refused)
 
 
+def first_place(text, lines):
+    """The first byte of the first field of a text that is one of these lines, past its tab."""
+    return min(text.index(b"\n" + line + b"\n") for line in lines) + 2
+
+
+def limit_place(names, lines):
+    """The place that refusal 13 gives for a text; None where all of it is within the limits."""
+    *aliases, _ = names.split(b"|")
+    if any(len(alias) > text_model.LONGEST_ALIAS for alias in aliases):
+        return 0
+    large = [line for line in lines if cut_number(line) != line]
+    if large:
+        return first_place(source_text(names, lines), large)
+    return 0 if len(names) > text_model.LONGEST_NAMES else None
+
+
+def check_limits(path, names, lines):
+    """Refusal 13 of a text for a number or its names past a limit; gives the text cut to them."""
+    cut_lines = [cut_number(line) for line in lines]
+    for kept in (lines, cut_lines):
+        place = limit_place(names, kept)
+        if place is not None:
+            answer, _ = library.compile_text(source_text(names, kept), LARGEST_FILE, SECOND_EDITION)
+            if answer != pack(13, place):
+                fail(path.name, "past a limit gives", hex(answer))
+    return source_text(cut(names), cut_lines)
+
+
 def check_compiled(folder, entries):
     """The source texts of installed entries, that of act4, and two with what those lack.
 
-    A text whose names are past a limit must be refused before they are cut.
+    A text with names or a number past a limit must be refused before they are cut.
     """
     texts = [
         source_text(b"none|all are cancelled", [
@@ -267,18 +343,52 @@ def check_compiled(folder, entries):
     ]
     refused = 0
     for path, text in entries:
-        names, lines = of_edition(text)
-        if cut(names) != names:
-            answer, _ = library.compile_text(source_text(names, lines), model.LARGEST_FILE)
-            if answer != library.pack(13):
-                fail(path.name, "with names past a limit gives", hex(answer))
-            refused += 1
-        texts.append(source_text(cut(names), lines))
+        names, lines = of_edition(text, SECOND_EDITION)
+        texts.append(check_limits(path, names, lines))
+        refused += texts[-1] != source_text(names, lines)
     for text in texts:
         check_printed(folder, text, text)
+        check_editions(text)
     by_line = re.sub(rb", +", b",\n\t", act4.TEXT).replace(b"    ", b"\t")
     check_printed(folder, act4.TEXT, by_line)
-    return f"{len(texts) + 1} texts compiled, {refused} of them refused 13 until names were cut"
+    return (f"{len(texts) + 1} texts compiled, {refused} of them refused 13 until cut to the "
+            "limits, in both editions and each read by the other")
+
+
+def read(file, edition, beyond):
+    """Names and states of a file in an edition, beyond which it has so many slots."""
+    refused, tables = Reader(file, edition).open()
+    if refused or tuple(tables[7:]) != beyond:
+        fail("refused", refused, "or slots beyond", tables, "for", file)
+    return contents(file, edition)
+
+
+def check_editions(text):
+    """A text in both editions: every place that both know is alike, any other absent or beyond."""
+    names, lines = of_edition(text, FIRST_EDITION)
+    older = source_text(names, lines)
+    _, first = library.compile_text(older, LARGEST_FILE, FIRST_EDITION)
+    _, wider = library.compile_text(older, LARGEST_FILE, SECOND_EDITION)
+    _, second = library.compile_text(text, LARGEST_FILE, SECOND_EDITION)
+    none, more = (0, 0, 0), tuple(b - a for a, b in zip(FIRST_EDITION, SECOND_EDITION))
+    known = read(first, FIRST_EDITION, none)
+    if known[0] != names or read(second, FIRST_EDITION, more) != known:
+        fail(names, "of the second edition differs in the first")
+    absent = {(kind, place): (model.ABSENT, None) for kind, place, _ in NEW}
+    for file in first, wider:
+        if read(file, SECOND_EDITION, none) != (names, {**known[1], **absent}):
+            fail(names, "of the first edition differs in the second")
+    _, states = read(second, SECOND_EDITION, none)
+    if {at: state for at, state in states.items() if at not in absent} != known[1]:
+        fail(names, "differs in the second edition at a place that both know")
+    for kind, place in enumerate(FIRST_EDITION):
+        if Reader(second, FIRST_EDITION).state(kind, place) >> 56 != 17:
+            fail(names, "kind", kind, "place", place, "is not beyond the first edition")
+    beyond = [line for line in of_edition(text, SECOND_EDITION)[1] if line not in lines]
+    answer, file = library.compile_text(text, LARGEST_FILE, FIRST_EDITION)
+    if (answer, file) != ((pack(11, first_place(text, beyond)), None) if beyond
+                          else (len(first), first)):
+        fail(names, "compiled in the first edition gives", hex(answer))
 
 
 if __name__ == "__main__":
@@ -288,5 +398,5 @@ if __name__ == "__main__":
         outcome = check_installed(Path(name), all_installed)
     with tempfile.TemporaryDirectory() as name:
         texts_compiled = check_compiled(Path(name), all_installed)
-    print(f"{order} entries of one capability agree with tic; {outcome}; {texts_compiled}; "
-          "infocmp prints the same")
+    print(f"{order} entries of one or all capabilities agree with tic; {outcome}; "
+          f"{texts_compiled}; infocmp prints the same")

@@ -98,11 +98,12 @@ def pick_counts():
     if form < 0.35:
         return [upto(6), upto(4), upto(8)]
     if form < 0.55:
-        return list(model.FIRST_EDITION)
+        return list(pick(model.FIRST_EDITION, model.SECOND_EDITION))
     if form < 0.7:
         return [upto(40), upto(20), upto(60)]
     if form < 0.8:
-        return [pick(20, 21, 22), pick(7, 8, 9), pick(137, 138, 139)]
+        return [max(0, count + pick(-1, 0, 1))
+                for count in pick(model.FIRST_EDITION, model.SECOND_EDITION)]
     if form < 0.9:
         return [pick(0, upto(5)), pick(0, upto(5)), pick(0, upto(5))]
     if form < 0.97:
@@ -327,11 +328,11 @@ def too_large(edition):
     return tuple(edition)
 
 
-def pick_edition(counts=model.FIRST_EDITION):
-    """An edition: the first, the largest, near a file's counts, anything between, or too large."""
+def pick_edition(counts=model.SECOND_EDITION):
+    """The first edition, the second, the largest, near a file's counts, any other, or too large."""
     form = chance()
     if form < 0.3:
-        return model.FIRST_EDITION
+        return pick(model.FIRST_EDITION, model.SECOND_EDITION)
     if form < 0.4:
         return model.LARGEST_EDITION
     if form < 0.6:
@@ -343,7 +344,7 @@ def pick_edition(counts=model.FIRST_EDITION):
         return upto(8), upto(5), upto(10)
     if form < 0.95:
         return pick(0, 64, upto(64)), pick(0, 64, upto(64)), pick(0, 512, upto(512))
-    return too_large(model.FIRST_EDITION)
+    return too_large(model.SECOND_EDITION)
 
 
 def pick_place(known, count):
@@ -786,7 +787,7 @@ def check_smaller(first, second, edition, file):
 def check_capabilities():
     """Every name of the lists, places beyond them, and kinds that are none."""
     for kind in range(256):
-        places = list(range(150)) + HUGE if kind < 3 else [0, 1, 20, 21, 137, *HUGE]
+        places = list(range(170)) + HUGE if kind < 3 else [0, 1, 36, 37, 157, *HUGE]
         for place in places:
             same("capability", library.capability(kind, place),
                  library.model_capability(kind, place), kind, place)

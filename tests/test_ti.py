@@ -1,6 +1,7 @@
 """Runs every command of ti: exit statuses, what it prints, the file that it writes, what it leaves.
 
-Answers are held to document 01's examples and, on generated input, to the models.
+Answers are held to the documents' examples and, on generated input in generated editions, to the
+models.
 """
 
 import os
@@ -17,10 +18,10 @@ import act4
 import expand_model
 import model
 import text_model
-from model import FIRST_EDITION, LARGEST_FILE, Refusal
-from test_compile import pick_text
+from model import FIRST_EDITION, LARGEST_EDITION, LARGEST_FILE, SECOND_EDITION, Refusal
+from test_compile import larger, pick_text
 from test_expand import pick_string, pick_values
-from test_random import make_pair, pick, pick_file, rng
+from test_random import make_pair, pick, pick_file, rng, upto
 from test_vectors import same
 
 TI = str(Path(__file__).resolve().parent.parent / "ti")
@@ -28,6 +29,11 @@ SEED = 21
 GENERATED = 400
 FILES, MERGES, STRINGS, SHOWS = 300, 200, 300, 40
 OLD = b"the file that was there before"
+# What act4 is compiled to in the second edition, which ti gives, and what ti says of it.
+ACT4 = text_model.compile(act4.TEXT, LARGEST_FILE, SECOND_EDITION)[2]
+COMPILED = (0, f"compiled: {len(ACT4)} bytes\n", "")
+TOO_LARGE = ("ti: the edition is too large: at most 64 booleans, 64 numbers, 512 strings "
+             "(refusal 3)\n")
 REFUSED = re.compile(r"ti: (.*?): (.*) \(refusal (\d+)(?:, byte (\d+))?\)\n")
 FIELD = re.compile(r"ti: (.*):(\d+):(\d+): (.*) \(refusal (\d+), byte (\d+)\)\n")
 FILE_SENTENCES = {
@@ -78,8 +84,27 @@ def files():
             for path in folder.rglob("*") if path.is_file()}
 
 
-def field_sentence(text, number, byte):
-    """What ti says of the field at a byte."""
+def option(edition):
+    """The words that give ti an edition; the second one needs none."""
+    forms = [["-e", ",".join(map(str, edition))]]
+    if edition in (FIRST_EDITION, SECOND_EDITION):
+        forms.append(["-e", "2" if edition == SECOND_EDITION else "1"])
+    if edition == SECOND_EDITION:
+        forms += [[], []]
+    chosen = pick(*forms)
+    if rng.random() < 0.1:  # the last -e counts
+        chosen = ["-e", pick("1", "2", "0,0,0", "64,64,512")] + (chosen or ["-e", "2"])
+    return chosen
+
+
+def pick_edition():
+    """The second edition, the first, smaller or larger ones."""
+    return pick(SECOND_EDITION, SECOND_EDITION, FIRST_EDITION, FIRST_EDITION,
+                larger(SECOND_EDITION), tuple(upto(count) for count in SECOND_EDITION))
+
+
+def field_sentence(text, number, byte, edition):
+    """What ti says of the field at a byte, compiled in an edition."""
     if number == 12:
         return "use= is not covered"
     if number == 10:
@@ -89,12 +114,15 @@ def field_sentence(text, number, byte):
     kind = next((kind for kind, names in enumerate(model.LISTS) if name.decode() in names), None)
     quoted = f"'{shown(name, 32)}'"
     if number == 11:
-        return f"unknown capability {quoted}" if kind is None else f"{quoted} {OTHER_KIND[kind]}"
+        if kind is None:
+            return f"unknown capability {quoted}"
+        known = name.decode() in model.LISTS[kind][:edition[kind]]
+        return f"{quoted} {OTHER_KIND[kind] if known else 'is not in the edition'}"
     return quoted + (" is above 32,767, or has more than 99 digits" if kind == model.NUMBER
                      else " is longer than 1,000 bytes")
 
 
-def text_refusal(source, text, errors):
+def text_refusal(source, text, errors, edition):
     """The number and the byte of a text's refusal, whose message is held to its form."""
     found = FIELD.fullmatch(errors)
     if found is None:
@@ -108,17 +136,17 @@ def text_refusal(source, text, errors):
     start = text.rfind(b"\n", 0, byte) + 1
     same((name, int(line), int(column)),
          (source, text.count(b"\n", 0, byte) + 1, byte - start + 1), errors)
-    same(sentence, field_sentence(text, number, byte), errors)
+    same(sentence, field_sentence(text, number, byte, edition), errors)
     return number, byte
 
 
-def compiled(name, text):
-    """The number of the refusal, or 0, and its place, as ti gives them for a text.
+def compiled(name, text, edition):
+    """The number of the refusal, or 0, and its place, as ti gives them for a text in an edition.
 
     The file is there if and only if the number is 0; else an old one stays, or none comes.
     """
     before = files()
-    status, printed, errors = ti("compile", name, text=text)
+    status, printed, errors = ti("compile", *option(edition), name, text=text)
     after = files()
     if status == 0:
         file = after.get(name)
@@ -126,28 +154,34 @@ def compiled(name, text):
         same(after, {**before, name: file}, "files")
         return 0, None, file
     same((status, printed, after), (1, "", before), text)
-    return *text_refusal("standard input", text, errors), None
+    return *text_refusal("standard input", text, errors, edition), None
 
 
-def expected(text):
-    number, values, file = text_model.compile(text, LARGEST_FILE)
+def expected(text, edition):
+    number, values, file = text_model.compile(text, LARGEST_FILE, edition)
     return number, values[0] if values else None, file
 
 
 def check_examples():
     (folder / "old").write_bytes(OLD)
-    same(compiled("act4", act4.TEXT), (0, None, act4.dumped()), "act4")
+    same(ti("compile", "-e", "1", "act4", text=act4.TEXT), (0, "compiled: 392 bytes\n", ""), "act4")
+    same((folder / "act4").read_bytes(), act4.dumped(), "act4")
+    same(ti("compile", "act4", text=act4.TEXT), (0, "compiled: 464 bytes\n", ""), "act4")
+    same((folder / "act4").read_bytes(), ACT4, "act4")
     texts = [b"", b"a|b,", b"a|b,\0", b"a|b,\n\tam,\n\0", b"a|b,\n\tam,\n\tzz,\n", b"a|b,\n use=x,",
              b"a|b,\n\tam, it#32768,\n", b"# note\n" + 15 * b"a" + b"|b,", b"a|b,\n\tam\n",
              b"a|b,\n" + 16379 * b" ", b"a|b,\n" + 16380 * b" ", b"a|b,\n" + 90000 * b"\n",
              b"a|b,\n" + b"".join(b" %s=%s,\n" % (name, 960 * b"x")
-                                  for name in (b"cr", b"el", b"ed", b"cup"))]
+                                  for name in (b"cr", b"el", b"ed", b"cup")),
+             b"a|b,\n\tam, bce, colors#8, pairs@, acsc=``aa,\n", b"a|b,\n\tcolors=8,\n",
+             b"a|b,\n\tam,\n\t.colors#8,\n\tncv#32768,\n"]
     for text in texts:
-        for name in ("old", "none"):
+        for name, edition in (("old", SECOND_EDITION), ("none", SECOND_EDITION),
+                              ("old", FIRST_EDITION), ("none", LARGEST_EDITION)):
             (folder / "old").write_bytes(OLD)
-            same(compiled(name, text), expected(text), text)
+            same(compiled(name, text, edition), expected(text, edition), text)
             (folder / "none").unlink(missing_ok=True)
-    return 2 * len(texts) + 1
+    return 4 * len(texts) + 2
 
 
 def check_names():
@@ -158,13 +192,12 @@ def check_names():
     put("act4.ti", act4.TEXT)
     for name in names:
         end = ["--"] if name[0] == "-" else []
-        same(ti("compile", *end, name, text=act4.TEXT), (0, "compiled: 392 bytes\n", ""), name)
-        same((folder / name).read_bytes(), act4.dumped(), name)
+        same(ti("compile", *end, name, text=act4.TEXT), COMPILED, name)
+        same((folder / name).read_bytes(), ACT4, name)
         for source in ("act4.ti", "-", "./act4.ti"):
             put(name, OLD)
-            same(ti("compile", source, name, text=act4.TEXT), (0, "compiled: 392 bytes\n", ""),
-                 name)
-            same((folder / name).read_bytes(), act4.dumped(), name)
+            same(ti("compile", source, name, text=act4.TEXT), COMPILED, name)
+            same((folder / name).read_bytes(), ACT4, name)
     old = os.umask(0o027)
     same(ti("compile", "closed", text=act4.TEXT)[0], 0, "closed")
     os.umask(old)
@@ -235,9 +268,9 @@ def refused(found, name, number, sentence=None, byte=None):
 
 
 def judged(file):
-    """The number of the file's refusal, or 0."""
+    """The number of the file's refusal, or 0; the edition has no part in it."""
     try:
-        model.open_entry(file, FIRST_EDITION)
+        model.open_entry(file, SECOND_EDITION)
         return 0
     except Refusal as refusal:
         return refusal.number
@@ -257,59 +290,83 @@ def shown_state(name, kind, state):
     return f"{name}#{value}" if kind == model.NUMBER else f"{name}={shown(value, 33)}"
 
 
-def shown_file(file):
+def label(kind, place):
+    """How a capability is shown: by its name, or by kind and place where it has none."""
+    names = model.LISTS[kind]
+    word = ("boolean", "number", "string")[kind]
+    return names[place] if place < len(names) else f"{word} {place}"
+
+
+def shown_file(file, edition=SECOND_EDITION):
     """What ti show prints of an accepted file."""
-    entry = model.open_entry(file, FIRST_EDITION)
+    entry = model.open_entry(file, edition)
     start, length = entry.names()
-    lines = ["names: " + shown(file[start:start + length], 32)]
-    for kind, names in enumerate(model.LISTS):
-        for place, name in enumerate(names):
+    counts = "{} booleans, {} numbers, {} strings"
+    lines = ["names: " + shown(file[start:start + length], 32),
+             "edition: " + counts.format(*edition)]
+    for kind, known in enumerate(edition):
+        for place in range(known):
             state = model.content_state(entry, kind, place)
             if state[0] != model.ABSENT:
-                lines.append(shown_state(name, kind, state))
-    lines.append("beyond the edition: {} booleans, {} numbers, {} strings".format(*entry.beyond()))
+                lines.append(shown_state(label(kind, place), kind, state))
+    lines.append("beyond the edition: " + counts.format(*entry.beyond()))
     return "\n".join(lines) + "\n"
 
 
-def check_file(file, given=None):
-    """ti check and ti show on a file, by its name or as standard input."""
+def check_file(file, given=None, edition=SECOND_EDITION):
+    """ti check and ti show on a file in an edition, by its name or as standard input."""
     name = put("file", file) if given is None else given
     number = judged(file)
-    checked = raw("check", name, given=file)
-    showed = raw("show", name, given=file)
+    checked = raw("check", *option(edition), name, given=file)
+    showed = raw("show", *option(edition), name, given=file)
     if number:
         said = "standard input" if name == "-" else name
         refused(checked, said, number)
         refused(showed, said, number)
     else:
         same(checked, (0, f"accepted: {len(file)} bytes\n".encode(), ""), file)
-        same(showed, (0, shown_file(file).encode(), ""), file)
+        same(showed, (0, shown_file(file, edition).encode(), ""), file)
     return number
 
 
-def check_some(file):
+def refused_beyond(found, said, name):
+    """A run that refuses a name which the lists have and the edition doesn't."""
+    status, printed, errors = found
+    same((status, printed), (1, b""), errors)
+    same(errors in [f"ti: {said}: {sentence} (refusal 11)\n"
+                    for sentence in (f"unknown capability '{name}'",
+                                     f"'{name}' is not in the edition")], True, errors)
+
+
+def check_some(file, edition=SECOND_EDITION):
     """ti show of a few capabilities of an accepted file: their lines, in the order asked."""
     put("file", file)
-    entry = model.open_entry(file, FIRST_EDITION)
+    entry = model.open_entry(file, edition)
     names = [(kind, place, name) for kind, names in enumerate(model.LISTS)
-             for place, name in enumerate(names)]
-    asked = rng.sample(names, 4) + [names[10], names[21], names[39], names[39]]
+             for place, name in enumerate(names[:edition[kind]])]
+    asked = rng.choices(names, k=7) if names else []
+    asked += asked[:1]
     lines = ""
     for kind, place, name in asked:
         state = model.content_state(entry, kind, place)
         lines += (f"{name} is absent" if state[0] == model.ABSENT
                   else shown_state(name, kind, state)) + "\n"
     words = [name for _, _, name in asked]
-    same(raw("show", "file", *words), (0, lines.encode(), ""), words)
-    same(raw("show", "-", *words, given=file), (0, lines.encode(), ""), words)
-    for wrong in ("wrong", "", "cup=", "\n"):
-        refused(raw("show", "file", *words, wrong), "file", 11,
+    if words:
+        same(raw("show", *option(edition), "file", *words), (0, lines.encode(), ""), words)
+        same(raw("show", *option(edition), "-", *words, given=file), (0, lines.encode(), ""), words)
+    for wrong in ("wrong", "", "cup=", "\n", "number 20"):
+        refused(raw("show", *option(edition), "file", *words, wrong), "file", 11,
                 f"unknown capability '{shown(wrong.encode(), 32)}'")
+    for known, names in zip(edition, model.LISTS):
+        if known < len(names):
+            name = pick(*names[known:])
+            refused_beyond(raw("show", *option(edition), "file", *words, name), "file", name)
 
 
 def check_files():
     """The lengths around the limits, by name and as standard input, then generated files."""
-    ends = [b"", b"\x1a", bytes(11), bytes(12), act4.dumped(), act4.dumped() + b"\0",
+    ends = [b"", b"\x1a", bytes(11), bytes(12), act4.dumped(), act4.dumped() + b"\0", ACT4,
             bytes(4096), bytes(4097), bytes(100_000)]
     for file in ends:
         check_file(file)
@@ -317,31 +374,116 @@ def check_files():
     numbers, shows = Counter(), 0
     for _ in range(FILES):
         file = bytes(pick_file()[0])
-        number = check_file(file)
+        edition = pick_edition()
+        number = check_file(file, edition=edition)
         numbers[number] += 1
         if number == 0 and shows < SHOWS:
-            check_some(file)
+            check_some(file, edition)
             shows += 1
     check_some(act4.dumped())
     missing = set(range(8)) - set(numbers)
     if missing:
         sys.exit(f"check and show: never seen: {missing}")
-    return 4 * len(ends) + 2 * FILES + 6 * (shows + 1)
+    return 4 * len(ends) + 2 * FILES + 7 * (shows + 1)
 
 
-def check_merge(first, second):
-    """ti merge on two files; the old file stays where it is refused."""
+def check_unnamed():
+    """ti show of capabilities that the edition counts and the lists don't name."""
+    states = [[(model.ABSENT, None)] * count for count in LARGEST_EDITION]
+    for kind, place, state in ((0, 1, (1, None)), (0, 40, (1, None)), (0, 63, (2, None)),
+                               (1, 13, (1, 8)), (1, 20, (1, 5)), (1, 16, (2, None)),
+                               (2, 157, (1, b"x")), (2, 158, (1, b"\x1b[m")), (2, 511, (2, None))):
+        states[kind][place] = state
+    file = model.written(b"a|b", states, LARGEST_FILE)
+    put("unnamed", file)
+    lines = ["names: a|b", "edition: 64 booleans, 64 numbers, 512 strings", "am", "boolean 40",
+             "boolean 63@", "colors#8", "number 16@", "number 20#5", "rmln=x",
+             "string 158=\\033[m", "string 511@",
+             "beyond the edition: 0 booleans, 0 numbers, 0 strings"]
+    same(raw("show", "-e", "64,64,512", "unnamed"), (0, ("\n".join(lines) + "\n").encode(), ""),
+         "unnamed")
+    lines = ["names: a|b", "edition: 37 booleans, 16 numbers, 158 strings", "am", "colors#8",
+             "rmln=x", "beyond the edition: 27 booleans, 48 numbers, 354 strings"]
+    same(raw("show", "unnamed"), (0, ("\n".join(lines) + "\n").encode(), ""), "unnamed")
+    lines = ["names: a|b", "edition: 21 booleans, 8 numbers, 138 strings", "am",
+             "beyond the edition: 43 booleans, 56 numbers, 374 strings"]
+    same(raw("show", "-e", "1", "unnamed"), (0, ("\n".join(lines) + "\n").encode(), ""), "unnamed")
+    for edition in ((0, 0, 0), (41, 17, 159), (38, 64, 158)):
+        check_file(file, edition=edition)
+    return 9
+
+
+# Each command with words that it takes; `-e` and its word stand before them.
+OPERANDS = {"compile": ["act4.ti", "out"], "check": ["act"], "show": ["act", "cup"],
+            "merge": ["act", "act", "out"], "expand": ["act", "cup"]}
+WRONG_EDITIONS = ["3", "0", "x", "", " ", "-1", "1,2", "1,2,3,4", "-1,2,3", "1,,3", "1,2,", ",1,2",
+                  ",,", ",", "1,2,3,", "1, 2,3", "+1,2,3", "1,2,x", "0x1,2,3", "1.2,3", "1\n",
+                  "21,8,138 ", "1;2;3", "first", "--", "-"]
+LARGE_EDITIONS = ["65,64,512", "64,65,512", "64,64,513", "99999999999999999999999,0,0",
+                  "0,18446744073709551616,0", "0,0,4294967296", "256,0,0", "65,65,513",
+                  "0,0,18446744073709552128"]
+
+
+def check_editions():
+    """-e of each command: wrong words, no word, too large before any file is read, the last one."""
+    put("act4.ti", act4.TEXT)
+    put("act", act4.dumped())
+    put("out", OLD)
+    before = files()
+    runs = 0
+    for command, operands in OPERANDS.items():
+        for words in ([["-e", wrong, *operands] for wrong in WRONG_EDITIONS]
+                      + [["-e"], ["-e", *operands], ["-e", "1", "-e", *operands],
+                         ["-e", "3", "-e", "1", *operands], ["-e", "1", "-e", "3", *operands],
+                         ["-e", "1"], ["-e", "65,0,0", "-e", "x", *operands],
+                         ["-e", "1", "-x", *operands]]):
+            status, printed, errors = raw(command, *words, given=act4.TEXT)
+            same((status, printed), (2, b""), [command, *words, errors])
+            same(f"usage: ti {command} " in errors, True, [command, *words, errors])
+            runs += 1
+        missing = ["missing"] * len(operands)
+        for large in LARGE_EDITIONS:
+            for words in (["-e", large, *operands], ["-e", "1", "-e", large, "--", *missing]):
+                same(raw(command, *words), (1, b"", TOO_LARGE), [command, *words])
+                runs += 1
+        same(files(), before, command)
+        for words in (["-e", "65,0,0", "-e", "2"], ["-e", "1", "-e", "37,16,158"],
+                      ["-e", "2", "--"], []):
+            put("out", OLD)
+            found = raw(command, *words, *operands)
+            same((found[0], found[2]), (0, ""), [command, *words])
+            if "out" in operands:
+                same((folder / "out").read_bytes(), ACT4, [command, *words])
+            runs += 1
+        put("out", OLD)
+    for words in (["-v", "-e", "1"], ["-e", "1", "-v"], ["-e", "1", "-v", "-e", "2", "--"]):
+        same(raw("expand", *words, "act", "cup", "5", "70"), (0, b"\\024\\005F\n5 steps\n", ""),
+             words)
+    for command, words in (("compile", ["out"]), ("merge", ["act", "act", "out"])):
+        same(raw(command, "-e", "1", *words, given=act4.TEXT)[0], 0, command)
+        same((folder / "out").read_bytes(), act4.dumped(), command)
+        same(raw(command, "-e", "64,64,512", *words, given=act4.TEXT)[0], 0, command)
+        same((folder / "out").read_bytes(), expected(act4.TEXT, LARGEST_EDITION)[2], command)
+    text = b"a|b,\n\tam, colors#8,\n"
+    same(raw("compile", "-e", "1", "out", given=text),
+         (1, b"", "ti: standard input:2:6: 'colors' is not in the edition (refusal 11, byte 10)\n"),
+         "colors")
+    return runs + 8
+
+
+def check_merge(first, second, edition=SECOND_EDITION):
+    """ti merge on two files in an edition; the old file stays where it is refused."""
     put("first", first)
     put("second", second)
     put("merged", OLD)
-    found = raw("merge", "first", "second", "merged")
+    found = raw("merge", *option(edition), "first", "second", "merged")
     for name, file in (("first", first), ("second", second)):
         if judged(file):
             refused(found, name, judged(file))
             same((folder / "merged").read_bytes(), OLD, "merged")
             return judged(file)
     try:
-        merged = model.merge(first, second, FIRST_EDITION, LARGEST_FILE)
+        merged = model.merge(first, second, edition, LARGEST_FILE)
     except Refusal as refusal:
         refused(found, "merged", refusal.number)
         same((folder / "merged").read_bytes(), OLD, "merged")
@@ -356,7 +498,8 @@ def check_merges():
     for pair in ((act, act), (act, b""), (b"", act), (act, bytes(4097))):
         check_merge(*pair)
     same(raw("merge", "-", "first", "merged", given=act)[0], 0, "merge from standard input")
-    numbers = Counter(check_merge(*map(bytes, make_pair()[0])) for _ in range(MERGES))
+    numbers = Counter(check_merge(*map(bytes, make_pair()[0]), pick_edition())
+                      for _ in range(MERGES))
     if not {0, 9} <= set(numbers):
         sys.exit(f"merge: never seen 0 or 9: {numbers}")
     left = [path for path in files() if "/.ti-" in "/" + path]
@@ -364,23 +507,28 @@ def check_merges():
     return MERGES + 5
 
 
-def with_string(string):
-    """A file whose cup is this string."""
-    return model.written(b"a|b", ([(0, None)] * 21, [(0, None)] * 8, [
-        (1, string) if place == 10 else (0, None) for place in range(138)]), LARGEST_FILE)
+def with_string(string, place):
+    """A file of the second edition whose string at a place is this one."""
+    states = [[(model.ABSENT, None)] * count for count in SECOND_EDITION]
+    states[model.STRING][place] = model.PRESENT, string
+    return model.written(b"a|b", states, LARGEST_FILE)
 
 
 def check_expansion(string, values):
     """ti expand and ti expand -v on a string with some values."""
-    put("file", with_string(string))
-    words = ["file", "cup", *map(str, values)]
-    found, verbose = raw("expand", *words), raw("expand", "-v", *words)
+    name = pick("cup", "cup", "sgr", "mc5p", "pln")
+    place = model.STRINGS.index(name)
+    put("file", with_string(string, place))
+    edition = pick(SECOND_EDITION, LARGEST_EDITION, (0, 0, place + 1))
+    words = ["file", name, *map(str, values)]
+    found = raw("expand", *option(edition), *words)
+    verbose = raw("expand", *pick([*option(edition), "-v"], ["-v", *option(edition)]), *words)
     try:
         nine = list(values) + [0] * (9 - len(values))
         made = expand_model.expand(string, nine, [0] * 26, 1 << 20, 0)
     except Refusal as refusal:
         for run in found, verbose:
-            refused(run, "file: cup", refusal.number, STRING_SENTENCES[refusal.number],
+            refused(run, f"file: {name}", refusal.number, STRING_SENTENCES[refusal.number],
                     refusal.value if refusal.number in (14, 15, 16) else None)
         return refusal.number
     same(found, (0, made.output, ""), string)
@@ -401,7 +549,7 @@ def check_expansions():
                 (b"%p9%d", tuple(range(1, 10))), (b"%p1%d%p2%d", (-2**31, 2**31 - 1)), (b"", ())]
     for string, values in examples:
         check_expansion(string, values)
-    _, _, changed = text_model.compile(b"a|b,\n cup@, ri=,\n", LARGEST_FILE)
+    _, _, changed = text_model.compile(b"a|b,\n cup@, ri=,\n", LARGEST_FILE, SECOND_EDITION)
     put("changed", changed)
     same(raw("expand", "changed", "cup"), (1, b"", "ti: changed: cup is cancelled\n"), "cancelled")
     same(raw("expand", "changed", "el"), (1, b"", "ti: changed: el is absent\n"), "absent")
@@ -411,6 +559,9 @@ def check_expansions():
                            ("cols", "'cols' is a number, not a string"),
                            ("cup\n", "unknown capability 'cup\\012'")):
         refused(raw("expand", "changed", name), "changed", 11, sentence)
+    refused_beyond(raw("expand", "-e", "1", "changed", "acsc"), "changed", "acsc")
+    refused_beyond(raw("expand", "-e", "37,16,10", "changed", "cup"), "changed", "cup")
+    same(raw("expand", "act", "acsc"), (1, b"", "ti: act: acsc is absent\n"), "beyond the file")
     same(raw("expand", "changed", 5000 * "c")[:2], (2, b""), "a long name")
     for word in ("x", "", "-", "+1", "1x", " 1", "2147483648", "-2147483649", 20 * "9", 70 * "1"):
         same(raw("expand", "act", "cup", word)[:2], (2, b""), word)
@@ -421,7 +572,7 @@ def check_expansions():
     missing = {0, 14, 15, 16} - set(numbers)
     if missing:
         sys.exit(f"expand: never seen: {missing}")
-    return 2 * len(examples) + 20 + 2 * STRINGS
+    return 2 * len(examples) + 23 + 2 * STRINGS
 
 
 def check_bad_files():
@@ -477,17 +628,17 @@ def long_path(name):
 
 def check_long_names():
     """Names of 255 bytes and paths of 4,095: read, written and shown in a refusal."""
-    act = act4.dumped()
+    act = ACT4
     name = 255 * "n"
     runs = 0
     for path in (name, long_path(name), long_path("long"), str(folder / name)):
         if "long" in path:
             put("long", act)
         else:
-            same(ti("compile", path, text=act4.TEXT), (0, "compiled: 392 bytes\n", ""), path)
+            same(ti("compile", path, text=act4.TEXT), COMPILED, path)
             same((folder / name).read_bytes(), act, path)
-            same(raw("merge", path, path, path), (0, b"merged: 392 bytes\n", ""), path)
-        same(raw("check", path), (0, b"accepted: 392 bytes\n", ""), path)
+            same(raw("merge", path, path, path), (0, b"merged: 464 bytes\n", ""), path)
+        same(raw("check", path), (0, b"accepted: 464 bytes\n", ""), path)
         same(raw("show", path), (0, shown_file(act).encode(), ""), path)
         same(raw("expand", path, "cup", "5", "70"), (0, b"\x14\x05F", ""), path)
         put("long" if "long" in path else name, act[:-1])
@@ -520,7 +671,7 @@ def check_closed_streams():
                                   stderr=subprocess.PIPE, check=False)
         same((done.returncode, done.stderr),
              (2, b"ti: standard output: No space left on device\n"), words)
-        same(files(), {**before, "out": act4.dumped()}, words)
+        same(files(), {**before, "out": ACT4}, words)
         runs += 2
     put("out", OLD)
     before = files()
@@ -611,9 +762,10 @@ def check_generated():
     rng.seed(SEED)
     numbers = Counter()
     for _ in range(GENERATED):
-        text = pick_text()
-        found = compiled("out", text)
-        same(found, expected(text), text)
+        edition = pick_edition()
+        text = pick_text(edition)
+        found = compiled("out", text, edition)
+        same(found, expected(text, edition), text)
         numbers[found[0]] += 1
     missing = {0, 1, 9, 10, 11, 12, 13} - set(numbers)
     if missing:
@@ -627,7 +779,8 @@ if __name__ == "__main__":
         rng.seed(SEED)
         counts = [check() for check in (
             check_help, check_examples, check_names, check_terminal, check_failures,
-            check_generated, check_files, check_merges, check_expansions,
+            check_editions, check_generated, check_files, check_unnamed, check_merges,
+            check_expansions,
             check_bad_files, check_long_names,
             check_closed_streams, check_full_disk, check_no_rights)]
-    print(f"{sum(counts)} runs of ti as stated, on document 01's examples and generated input")
+    print(f"{sum(counts)} runs of ti as stated, on the documents' examples and generated input")

@@ -1,7 +1,8 @@
 """Compiling source text as document 01 defines it: lines, header, fields, strings and numbers.
 
-Written from document 01 alone, independently of the library; the tests compare the two.
-Each refusal gives document 01's number and the values that come with it.
+The edition is an input (document 02, 2026-01). Written from the documents alone, independently of
+the library; the tests compare the two. Each refusal gives document 01's number and the values that
+come with it.
 """
 
 import re
@@ -157,10 +158,10 @@ def next_field(text, place):
     return field
 
 
-def place_of(field):
-    """Kind of capability and place in its list of the one that a field names."""
-    for kind, names in enumerate(model.LISTS):
-        if field.name.decode("ascii") in names:
+def place_of(field, edition):
+    """Kind of capability and place in its list of the one that a field names in an edition."""
+    for kind, (names, known) in enumerate(zip(model.LISTS, edition)):
+        if field.name.decode("ascii") in names[:known]:
             if field.kind in (None, kind):
                 return kind, names.index(field.name.decode("ascii"))
     return None
@@ -173,11 +174,11 @@ def past_limit(field):
     return field.kind == STRING and len(field.content) > LARGEST_STRING
 
 
-def take(field, start, states):
+def take(field, start, edition, states):
     """Judges a field that isn't dropped, and keeps its state if it is the capability's first."""
     if field.name == b"use" and field.kind == STRING:
         raise model.Refusal(12, start)
-    capability = place_of(field)
+    capability = place_of(field, edition)
     if capability is None:
         raise model.Refusal(11, start)
     if past_limit(field):
@@ -186,8 +187,9 @@ def take(field, start, states):
     states.setdefault(capability, state)
 
 
-def described(text):
+def described(text, edition):
     """The names that a text describes, and the states by kind of capability and place."""
+    model.check_edition(edition)
     if len(text) > LARGEST_TEXT:
         raise model.Refusal(1)
     start = skip_lines(text, 0)
@@ -204,23 +206,24 @@ def described(text):
         except Malformed:
             raise model.Refusal(10, start) from None
         if not field.dropped:
-            take(field, start, states)
+            take(field, start, edition, states)
     names = b"|".join(names)
     if len(names) > LONGEST_NAMES:
         raise model.Refusal(13, 0)
     return names, states
 
 
-def compile(text, room):
-    """Compiles a text in the first edition: the refusal's number or 0, its values, the file.
+def compile(text, room, edition):
+    """Compiles a text in an edition: the refusal's number or 0, its values, the file.
 
-    The file is None if the text is refused.
+    The file is None if the text is refused. Places of the edition past the lists of names are
+    absent.
     """
     try:
-        names, states = described(text)
+        names, states = described(text, edition)
         lists = [[states.get((kind, place), (ABSENT, None)) for place in range(count)]
-                 for kind, count in enumerate(model.FIRST_EDITION)]
+                 for kind, count in enumerate(edition)]
         return 0, [], model.written(names, lists, room)
     except model.Refusal as refusal:
-        values = [] if refusal.number in (1, 9) else [refusal.value]
+        values = [] if refusal.number in (1, 3, 9) else [refusal.value]
         return refusal.number, values, None

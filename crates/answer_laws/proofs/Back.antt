@@ -184,11 +184,12 @@ merged-back (G.Room n) = refl
 abbrev pub compiled : Answer ℕ → Compiled
 compiled (gives n) = C.File n
 compiled (refused n v) =
-    if eqb n 1 then C.Length else if eqb n 9 then C.Size else if eqb n 8 then C.Room (getD v 0 0)
+    if eqb n 3 then C.Edition else if eqb n 1 then C.Length else if eqb n 9 then C.Size else if eqb n 8 then C.Room (getD v 0 0)
     else C.Refused (text n) (getD v 0 0)
 
 pub compiled-back : (r : Compiled) → compiled (plain (saysCompiled r)) ≡ r
 compiled-back (C.File n) = refl
+compiled-back C.Edition = refl
 compiled-back C.Length = refl
 compiled-back (C.Refused T.Malformed p) = refl
 compiled-back (C.Refused T.Unknown p) = refl

@@ -343,6 +343,7 @@ merged-fits (G.Room n) h = omega arith
 
 compiled-fits : (r : Compiled) → Bounded (saysCompiled r) → Fits InFile (saysCompiled r)
 compiled-fits (C.File n) h = h
+compiled-fits C.Edition h = omega arith
 compiled-fits C.Length h = omega arith
 compiled-fits (C.Refused r p) h = (text-some r, omega arith)
 compiled-fits C.Size h = omega arith

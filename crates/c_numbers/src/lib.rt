@@ -147,6 +147,7 @@ pub fn compiled_number(c: Compiled) -> u64
     let refusal = top(refusal_numbers::of_compiled(c));
     match c {
         Compiled::File(n) => n as u64,
+        Compiled::Edition => refusal,
         Compiled::Length => refusal,
         Compiled::Refused(_, place) => refusal + place as u64,
         Compiled::Size => refusal,

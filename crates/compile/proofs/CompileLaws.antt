@@ -1,7 +1,7 @@
 -- Laws of compiling from the arrays at first to the answer.
 -- Assumes nothing.
 use mathlib.Core.Path.{_≡_, refl, sym, ap, _∙_, subst}
-use mathlib.Core.Bool.{true}
+use mathlib.Core.Bool.{true, false}
 use mathlib.Core.List.{List, [], _∷_}
 use Prim.Native.Nat.{ℕ, zero, suc, _+_, _≤_, _<_}
 use native.Mathlib.Omega.{arith}
@@ -132,16 +132,20 @@ pub header-comes : (e : Edition) (t : List ℕ) (i : ℕ) (h : Header) → h ≡
     → Leaves (fitted (length b) (headed e t i (headerAt t i))) b d says
 header-comes e t i h q b d says l = subst (λ (x : Header). Leaves (fitted (length b) (headed e t i x)) b d says) q l
 
--- ---- the text
+-- ---- the edition and the text
 
-module _ (e : Edition) (t b : List ℕ) where
+pub edition-large : (e : Edition) (t b : List ℕ) → okEdition e ≡ false → Leaves (compiling e t (length b)) b b (refused 3 [])
+unfolding compiling
+edition-large e t b o = (rw o, rw o)
+
+module _ (e : Edition) (t b : List ℕ) (o : okEdition e ≡ true) where
   pub text-long : textMost < length t → Leaves (compiling e t (length b)) b b (refused 1 [])
   unfolding compiling
-  text-long h = (rw (lt-leb _ _ h), rw (lt-leb _ _ h))
+  text-long h = (rw (o, lt-leb _ _ h), rw (o, lt-leb _ _ h))
 
   pub text-comes : length t ≤ textMost → (l : Line) → lineAt t 0 ≡ l → (d : List ℕ) (says : Answer ℕ)
       → Leaves (fitted (length b) (begun e t l)) b d says
       → Leaves (compiling e t (length b)) b d says
   unfolding compiling describing
   text-comes h l q d says w =
-      rw (le-leb _ _ h) (subst (λ (x : Line). Leaves (fitted (length b) (begun e t x)) b d says) (sym q) w)
+      rw (o, le-leb _ _ h) (subst (λ (x : Line). Leaves (fitted (length b) (begun e t x)) b d says) (sym q) w)

@@ -1,5 +1,5 @@
-// Compiles source text (document 01: Source text, order of text). Proved: `compile` answers every text as `compiling`
-// of text/specs says in the first edition, and a refusal leaves the buffer as it was. Assumed: nothing.
+// Compiles source text (document 01: Source text, order of text). Proved: `compile` answers every text and edition as
+// `compiling` of text/specs says, and a refusal leaves the buffer as it was. Assumed: nothing.
 ghost use mathlib.Core.Path.{_≡_};
 ghost use mathlib.Core.Bool.{true};
 ghost use Prim.Native.Nat.{_+_, _<_};
@@ -10,7 +10,6 @@ ghost use Rattle.text.specs.declared.Header.{Header};
 ghost use Rattle.text.specs.declared.Header.the-variants as Headers;
 ghost use Rattle.text.specs.Heading.{headerAt};
 ghost use Rattle.text.specs.Describing.{headed};
-ghost use Rattle.names.specs.Names.{firstEdition};
 ghost use Rattle.text.specs.Compiling.{fitted, compiling, saysCompiled};
 use edition::BOOLEANS_MOST;
 use edition::Edition;
@@ -87,13 +86,18 @@ fn compile_headed(text: &[u8], at: usize, edition: Edition, buffer: &mut [u8]) -
     }
 }
 
-// Compiles a text in an edition.
-fn compile_in(text: &[u8], edition: Edition, buffer: &mut [u8]) -> Compiled
-    requires { ⌜ okEdition edition ≡ true ⌝ }
+// Writes the file of the description in a text at the buffer's start, in the edition, or refuses and leaves the buffer
+// as it is.
+pub fn compile(edition: Edition, text: &[u8], buffer: &mut [u8]) -> Compiled
     ensures { λ r. ⌜ Leaves (compiling edition (now (text .entry)) (length (now (buffer .entry))))
         (now (buffer .entry)) (now (buffer .exit)) (saysCompiled r) ⌝ }
 {
-    if TEXT_MOST < text.len() {
+    let is_large = !edition::edition_ok(edition);
+    let is_long = TEXT_MOST < text.len();
+    if is_large {
+        return Compiled::Edition;
+    }
+    if is_long {
         return Compiled::Length;
     }
     match text_lines::line_at(text, 0) {
@@ -101,13 +105,4 @@ fn compile_in(text: &[u8], edition: Edition, buffer: &mut [u8]) -> Compiled
         Line::Column(at) => compile_headed(text, at, edition, buffer),
         Line::Indented(_) => Compiled::Refused(TextRefusal::Malformed, 0),
     }
-}
-
-// Writes the file of the description in a text at the buffer's start, in the first edition, or refuses and leaves the
-// buffer as it is.
-pub fn compile(text: &[u8], buffer: &mut [u8]) -> Compiled
-    ensures { λ r. ⌜ Leaves (compiling firstEdition (now (text .entry)) (length (now (buffer .entry))))
-        (now (buffer .entry)) (now (buffer .exit)) (saysCompiled r) ⌝ }
-{
-    compile_in(text, names::FIRST_EDITION, buffer)
 }

@@ -38,7 +38,7 @@ pub written-when : (e : Edition) (k : Call e) (x : Entry) (room : ℕ) → holdi
     → length (encode x) ≤ room → calling e k room ≡ gives (encode x)
 written-when e (write h) x room q m l =
     written-if e h room m (rw (← same q) at l) ∙ ap (λ (y : Entry). gives (encode y)) (same q)
-written-when e (compile o t) x room q m l = compiled-if e t room x m l
+written-when e (compile t) x room q m l = compiled-if e t room x m l
 written-when e (merge a b) x room q m l =
     merged-if e a b room m (rw (← same q) at l) ∙ ap (λ (y : Entry). gives (encode y)) (same q)
 
@@ -55,7 +55,7 @@ pub written-only-when : (e : Edition) (k : Call e) (room : ℕ) (f : List ℕ) �
 written-only-when e (write h) room f w =
     let p = written-only-if e h room f w in
     record { entry = entryOf e h; held = refl; meets = p .0; fits = p .1 .0; file = p .1 .1 }
-written-only-when e (compile o t) room f w =
+written-only-when e (compile t) room f w =
     let c = compiled-only-if e t room f w in
     record { entry = c .entry; held = c .meets .describes; meets = c .meets; fits = c .fits; file = c .file }
 written-only-when e (merge a b) room f w =
@@ -71,10 +71,10 @@ file-holds e x f w = by-call (w .call) (w .file) (w .held)
   where
     by-call : (k : Call e) → calling e k (w .room) ≡ gives f → holding e k ≡ gives x → WrittenIn e x f
     by-call (write h) c q = subst (λ (y : Entry). WrittenIn e y f) (same q) (written-holds e h (w .room) f c)
-    by-call (compile o t) c q =
+    by-call (compile t) c q =
         let d : gives (compiled-only-if e t (w .room) f c .entry) ≡ gives x
         = sym (compiled-only-if e t (w .room) f c .meets .describes) ∙ q in
-        subst (λ (y : Entry). WrittenIn e y f) (same d) (compiled-holds e t (w .room) f o c)
+        subst (λ (y : Entry). WrittenIn e y f) (same d) (compiled-holds e t (w .room) f c)
     by-call (merge a b) c q = subst (λ (y : Entry). WrittenIn e y f) (same q) (merged-holds e a b (w .room) f c)
 
 -- in the edition that wrote it, opening gives the file's names, and each place that the edition knows is answered

@@ -1,6 +1,6 @@
 -- The cases of judging, as the code meets them.
 -- Assumes nothing.
-use mathlib.Core.Path.{_≡_, refl, sym}
+use mathlib.Core.Path.{_≡_, refl, sym, ap, _∙_, subst}
 use mathlib.Core.Bool.{Bool, true, false, _&&_}
 use mathlib.Core.List.{List, [], _∷_}
 use Prim.Native.Nat.{ℕ, _-_, _≤_, _<_}
@@ -14,10 +14,13 @@ use Rattle.entry.specs.Limits.{contentMost}
 use Rattle.entry.specs.Writing.{stateOf}
 use Rattle.names.specs.declared.Found.{Found}
 use Rattle.names.specs.declared.Found.the-variants as N
-use Rattle.names.specs.Names.{ascii}
-use Rattle.names.specs.Lookup.{sameBytes, lookingUp}
-use Rattle.base.proofs.IfLaws.{is-false}
-use Rattle.names.proofs.LookupLaws.{same-eq, found-in}
+use Rattle.names.specs.Names.{ascii, parted, named, secondEdition, booleanNames, numberNames, stringNames}
+use Rattle.names.specs.Lookup.{sameBytes, placeIn, lookingUp}
+use Rattle.names.specs.Searching.{knownIn}
+use Rattle.base.specs.Scan.{scan}
+use Rattle.base.proofs.IfLaws.{is-false, true-false}
+use Rattle.names.proofs.LookupLaws.{same-eq, FoundIn, found-in}
+use Rattle.names.proofs.Editions.{known-means}
 use Rattle.text.specs.declared.FieldForm.{FieldForm}
 use Rattle.text.specs.declared.FieldForm.the-variants as F
 use Rattle.text.specs.declared.Said.the-variants as S
@@ -29,7 +32,7 @@ use Rattle.text.specs.Fields.{fieldAt}
 use Rattle.text.specs.Describing.{sayingOf, namedSaying, isUse, judging}
 use Rattle.text_laws.specs.FieldLaws.{field-after, field-string}
 use Rattle.judge.specs.Judged.{saysJudged, JudgedIn}
-use Rattle.judge.specs.Kinds.{FormIn, Judges, JudgesNamed}
+use Rattle.judge.specs.Kinds.{FormIn, Judges, JudgesNamed, JudgesUnknown}
 
 -- ---- the name `use`
 
@@ -49,6 +52,35 @@ use-third (a ∷ (b ∷ (c ∷ []))) l u s = rw (u, s) (by-test (eqb c 101))
     by-test false = refl
 use-third (a ∷ (b ∷ (c ∷ (d ∷ n)))) l u s = absurd (let z : ⊥ = omega arith in z)
 
+-- one computed test: no capability has the name
+use-unlisted : lookingUp secondEdition (ascii "use") ≡ N.Unknown
+unfolding lookingUp placeIn scan sameBytes booleanNames numberNames stringNames named parted ascii
+use-unlisted = refl
+
+use-unknown : (e : Edition) → lookingUp e (ascii "use") ≡ N.Unknown
+unfolding knownIn
+use-unknown e = known-means e (ascii "use") ∙ ap (knownIn e) use-unlisted
+
+is-use-named : (name : List ℕ) (form : FieldForm) → isUse name form ≡ true → name ≡ ascii "use"
+is-use-named name F.Boolean h = true-false (sym h)
+is-use-named name F.Cancelled h = true-false (sym h)
+is-use-named name (F.Number v) h = true-false (sym h)
+is-use-named name F.LargeNumber h = true-false (sym h)
+is-use-named name (F.String i n) h = same-eq name (ascii "use") h
+
+abbrev pub isKnown : Found → Bool
+isKnown (N.Boolean q) = true
+isKnown (N.Number q) = true
+isKnown (N.String q) = true
+isKnown N.Unknown = false
+
+-- a name that means a capability isn't `use`
+not-use-field : (e : Edition) (name : List ℕ) (form : FieldForm) → isKnown (lookingUp e name) ≡ true
+    → isUse name form ≡ false
+not-use-field e name form h =
+    is-false (isUse name form) (λ u.
+    true-false (sym h ∙ ap isKnown (ap (lookingUp e) (is-use-named name form u) ∙ use-unknown e)))
+
 -- ---- a string's form
 
 module _ (q : Place) (form : FieldForm) (next i n : ℕ) (is : form ≡ F.String i n) where
@@ -62,16 +94,21 @@ module _ (q : Place) (form : FieldForm) (next i n : ℕ) (is : form ≡ F.String
 
 -- ---- a name
 
-module _ (e : Edition) (name : List ℕ) (form : FieldForm) (next : ℕ) where
-  pub named-use : isUse name form ≡ true → JudgesNamed e name form next (J.Refused R.Use)
+module _ (name : List ℕ) (form : FieldForm) where
+  pub named-use : isUse name form ≡ true → JudgesUnknown name form (J.Refused R.Use)
   unfolding namedSaying
-  named-use h t p f = (rw h, tt)
+  named-use h e next u t p f = (rw h, tt)
 
-  pub named-found : isUse name form ≡ false → (found : Found) → found ≡ lookingUp e name → (r : FieldJudged) → Judges found form next r → JudgesNamed e name form next r
+  pub named-unknown : isUse name form ≡ false → JudgesUnknown name form (J.Refused R.Unknown)
+  unfolding namedSaying sayingOf
+  named-unknown h e next u t p f = (rw (h, u), tt)
+
+  pub named-found : (e : Edition) (next : ℕ) (found : Found) → lookingUp e name ≡ found → isKnown found ≡ true
+      → (r : FieldJudged) → Judges found form next r → JudgesNamed e name form next r
   unfolding namedSaying
-  named-found h found g r j t p f =
-      let u = j e t p (rw g (found-in e name)) f in
-      (rw (h, ← g) (u .0), u .1)
+  named-found e next found g k r j t p f =
+      let u = j e t p (subst (FoundIn e) g (found-in e name)) f in
+      (rw (not-use-field e name form (ap isKnown g ∙ k), g) (u .0), u .1)
 
 -- ---- a field
 

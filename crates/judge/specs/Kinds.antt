@@ -6,6 +6,8 @@ use Prim.Native.Nat.{ℕ}
 use Rattle.edition.specs.declared.Edition.{Edition}
 use Rattle.base.specs.Answer.{Answer, mapAnswer}
 use Rattle.names.specs.declared.Found.{Found}
+use Rattle.names.specs.declared.Found.the-variants as N
+use Rattle.names.specs.Lookup.{lookingUp}
 use Rattle.names.proofs.LookupLaws.{FoundIn}
 use Rattle.text.specs.declared.FieldForm.{FieldForm}
 use Rattle.text.specs.declared.FieldForm.the-variants as F
@@ -36,3 +38,7 @@ Judges found form next r =
 abbrev pub JudgesNamed : Edition → List ℕ → FieldForm → ℕ → FieldJudged → Type 0
 JudgesNamed e name form next r =
     (t : List ℕ) (p : ℕ) → FormIn t form → (saysJudged t p r ≡ to next (namedSaying e t p name form)) × JudgedIn e t r
+
+-- the same under a name that an edition doesn't know, for every such edition
+abbrev pub JudgesUnknown : List ℕ → FieldForm → FieldJudged → Type 0
+JudgesUnknown name form r = (e : Edition) (next : ℕ) → lookingUp e name ≡ N.Unknown → JudgesNamed e name form next r

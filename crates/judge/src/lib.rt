@@ -8,7 +8,7 @@ ghost use Rattle.names.specs.Lookup.{sameBytes};
 ghost use Rattle.names.specs.declared.Found.the-variants as Capability;
 ghost use Rattle.text.specs.Describing.{isUse, judging};
 ghost use Rattle.judge.specs.Judged.{saysJudged, JudgedIn};
-ghost use Rattle.judge.specs.Kinds.{Judges, JudgesNamed};
+ghost use Rattle.judge.specs.Kinds.{Judges, JudgesNamed, JudgesUnknown};
 use edition::Edition;
 use edition::Place;
 use entry::CANCELLED;
@@ -92,26 +92,26 @@ fn string_by(place: Place, form: FieldForm, next: usize) -> FieldJudged
     }
 }
 
-// What a form says of the capability that its name was looked up as.
-fn judge_found(found: Found, form: FieldForm, next: usize) -> FieldJudged
-    ensures { λ r. ⌜ (Judges found form next r) ⌝ }
-{
-    match found {
-        Found::Boolean(place) => boolean_by(place, form, next),
-        Found::Number(place) => number_by(place, form, next),
-        Found::String(place) => string_by(place, form, next),
-        Found::Unknown => FieldJudged::Refused(TextRefusal::Unknown),
-    }
-}
-
-// A field that isn't dropped.
-fn judge_named(name: &[u8], form: FieldForm, next: usize, edition: Edition) -> FieldJudged
-    ensures { λ r. ⌜ (JudgesNamed edition (now (name .entry)) form next r) ⌝ }
+// A field whose name means no capability of the edition: `use=`, or an unknown name.
+fn judge_unknown(name: &[u8], form: FieldForm) -> FieldJudged
+    ensures { λ r. ⌜ (JudgesUnknown (now (name .entry)) form r) ⌝ }
 {
     if is_use_field(name, form) {
         return FieldJudged::Refused(TextRefusal::Use);
     }
-    judge_found(lookup::find(name, edition), form, next)
+    FieldJudged::Refused(TextRefusal::Unknown)
+}
+
+// A field that isn't dropped. `use` is no capability's name, so that only unknown names are compared with it.
+fn judge_named(name: &[u8], form: FieldForm, next: usize, edition: Edition) -> FieldJudged
+    ensures { λ r. ⌜ (JudgesNamed edition (now (name .entry)) form next r) ⌝ }
+{
+    match lookup::known_in(edition, lookup::find_all(name)) {
+        Found::Boolean(place) => boolean_by(place, form, next),
+        Found::Number(place) => number_by(place, form, next),
+        Found::String(place) => string_by(place, form, next),
+        Found::Unknown => judge_unknown(name, form),
+    }
 }
 
 // The field whose first byte is at a place.

@@ -23,7 +23,7 @@ use Rattle.names.specs.Names.{ascii, parted, named, booleanNames, number
 use Rattle.names.specs.Naming.{packed, packedNames}
 use Rattle.names.proofs.NamingLaws.{packed-at}
 use Rattle.names.specs.Lookup.{sameBytes, placeIn, isThere, lookingUp}
-use Rattle.names.specs.Searching.{fitsTable, sought, searching}
+use Rattle.names.specs.Searching.{nameMost, fitsTable, sought, searching}
 use Rattle.names.proofs.Places.{all, all-at, differs, differs-ne, placed-number, only-place, no-place}
 
 -- each element is a byte
@@ -63,13 +63,13 @@ word-each (suc w) m n p b c e (suc j) l =
 
 -- ---- a name and its number
 
-fits-most : (n : List ℕ) → fitsTable n ≡ true → length n ≤ 5
+fits-most : (n : List ℕ) → fitsTable n ≡ true → length n ≤ nameMost
 unfolding fitsTable
 fits-most n e = leb-true _ _ (and-left _ _ (and-right (leb 2 (length n)) _ e))
 
 fits-end : (n : List ℕ) → fitsTable n ≡ true → getD n (length n - 1) 0 ≡ 0 → ⊥
 unfolding fitsTable
-fits-end n e = differs-ne _ _ (and-right (leb (length n) 5) _ (and-right (leb 2 (length n)) _ e))
+fits-end n e = differs-ne _ _ (and-right (leb (length n) nameMost) _ (and-right (leb 2 (length n)) _ e))
 
 -- a list is as long as its number tells
 no-longer : (m n : List ℕ) → fitsTable n ≡ true → ((j : ℕ) → j < 8 → getD m j 0 ≡ getD n j 0) → length n ≤ length m
@@ -131,19 +131,20 @@ module _ (n : List ℕ) where
   sought-short l = not-sought (λ e. let h = leb-true 2 (length n) (and-left _ _ e) in omega arith)
 
   -- no count of bytes that a name has
-  pub sought-other : 2 ≤ length n → (length n ≡ 2 → ⊥) → (length n ≡ 3 → ⊥) → (length n ≡ 4 → ⊥) → (length n ≡ 5 → ⊥) → 0 ≡ sought n
-  sought-other l a b c d = not-sought (λ e. let h = fits-most n e in omega arith)
+  pub sought-other : 2 ≤ length n → (length n ≡ 2 → ⊥) → (length n ≡ 3 → ⊥) → (length n ≡ 4 → ⊥) → (length n ≡ 5 → ⊥)
+      → (length n ≡ 6 → ⊥) → 0 ≡ sought n
+  sought-other l a b c d f = not-sought (λ e. let h = fits-most n e in omega arith)
 
   pub sought-nul : getD n (length n - 1) 0 ≡ 0 → 0 ≡ sought n
   sought-nul z = not-sought (λ e. fits-end n e z)
 
-  pub sought-bytes : (k : ℕ) → length n ≡ k → 2 ≤ k → k ≤ 5 → (getD n (length n - 1) 0 ≡ 0 → ⊥) → word k n 0 ≡ sought n
+  pub sought-bytes : (k : ℕ) → length n ≡ k → 2 ≤ k → k ≤ nameMost → (getD n (length n - 1) 0 ≡ 0 → ⊥) → word k n 0 ≡ sought n
   unfolding sought fitsTable packed
   sought-bytes k q a b z =
       let e : 8 ≡ k + (8 - k) = omega arith in
       let l : 2 ≤ length n = omega arith in
-      let m : length n ≤ 5 = omega arith in
-      rw (le-leb 2 (length n) l, le-leb (length n) 5 m, ne-eqb _ _ z) (sym (rw e (word-more k (8 - k) n 0 (omega arith))))
+      let m : length n ≤ nameMost = omega arith in
+      rw (le-leb 2 (length n) l, le-leb (length n) nameMost m, ne-eqb _ _ z) (sym (rw e (word-more k (8 - k) n 0 (omega arith))))
 
 -- ---- the table
 

@@ -66,7 +66,7 @@ numbers-distinct : distinct packedNames ≡ true
 unfolding packedNames packed word allNames booleanNames numberNames stringNames named parted ascii
 numbers-distinct = refl
 
-one-place : (i j : ℕ) → i < allNamed → j < allNamed → getD packedNames i 0 ≡ getD packedNames j 0 → i ≡ j
+pub one-place : (i j : ℕ) → i < allNamed → j < allNamed → getD packedNames i 0 ≡ getD packedNames j 0 → i ≡ j
 one-place i j l m q = distinct-at packedNames i j numbers-distinct (rw numbers-count l) (rw numbers-count m) q
 
 -- ---- searches for w among the count numbers from first on

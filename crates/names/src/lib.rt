@@ -13,15 +13,30 @@ use edition::Edition;
 use edition::Kind;
 use edition::Place;
 
-// How many names each list has.
-pub const BOOLEANS: usize = 21;
+// How many names each list has, and all of them.
+pub const BOOLEANS: usize = 37;
 
-pub const NUMBERS: usize = 8;
+pub const NUMBERS: usize = 16;
 
-pub const STRINGS: usize = 138;
+pub const STRINGS: usize = 158;
+
+pub const ALL: usize = BOOLEANS + NUMBERS + STRINGS;
+
+// The editions that have a name: the first, and the second, which counts all names.
+pub const FIRST_EDITION: Edition = Edition {
+    booleans: 21,
+    numbers: 8,
+    strings: 138,
+};
+
+pub const SECOND_EDITION: Edition = Edition {
+    booleans: BOOLEANS,
+    numbers: NUMBERS,
+    strings: STRINGS,
+};
 
 // All names, each as a number whose bytes, low byte first, are the name's.
-const NAMES: [u64; 167] = [
+const NAMES: [u64; ALL] = [
     // booleans
     30562, // bw
     28001, // am
@@ -44,6 +59,22 @@ const NAMES: [u64; 167] = [
     31336, // hz
     27765, // ul
     7237496, // xon
+    1852799086, // nxon
+    1765106541, // mc5i
+    1937008739, // chts
+    427037979246, // nrrmc
+    6516846, // npc
+    491294778478, // ndscr
+    6513507, // ccc
+    6644578, // bce
+    7564392, // hls
+    1634756728, // xhpa
+    1836610147, // crxm
+    521627328868, // daisy
+    1634760312, // xvpa
+    7168371, // sam
+    2020175971, // cpix
+    2020175980, // lpix
     // numbers
     1936486243, // cols
     29801, // it
@@ -53,6 +84,14 @@ const NAMES: [u64; 167] = [
     25200, // pb
     29814, // vt
     7107447, // wsl
+    1650551918, // nlab
+    26732, // lh
+    30572, // lw
+    24941, // ma
+    1836412535, // wnum
+    126935332843363, // colors
+    495840747888, // pairs
+    7758702, // ncv
     // strings
     7627363, // cbt
     7103842, // bel
@@ -192,13 +231,33 @@ const NAMES: [u64; 167] = [
     7107444, // tsl
     25461, // uc
     30056, // hu
+    444251402345, // iprog
+    3236203, // ka1
+    3367275, // ka3
+    3301995, // kb2
+    3236715, // kc1
+    3367787, // kc3
+    1882547053, // mc5p
+    7368050, // rmp
+    1668506465, // acsc
+    7236720, // pln
+    1952605035, // kcbt
+    474316565875, // smxon
+    474316565874, // rmxon
+    1835101555, // smam
+    1835101554, // rmam
+    1668181880, // xonc
+    426919751544, // xoffc
+    495588568677, // enacs
+    1852599667, // smln
+    1852599666, // rmln
 ];
 
 // A capability's name.
 pub enum Name {
     // the number whose bytes, low byte first, are the name's
     Packed(u64),
-    // 17: the first edition's list has no such place
+    // 17: the list has no such place
     Beyond,
 }
 
@@ -230,7 +289,7 @@ fn name_in(first: usize, count: usize, place: Place) -> Name
     Name::Packed(packed_name(first + place.0))
 }
 
-// The name of the capability at a place of the first edition's lists.
+// The name of the capability at a place of a list.
 pub fn name_of(kind: Kind, place: Place) -> Name
     ensures { λ r. ⌜ saysName r ≡ naming kind place ⌝ }
 {
@@ -240,10 +299,3 @@ pub fn name_of(kind: Kind, place: Place) -> Name
         Kind::String => name_in(BOOLEANS + NUMBERS, STRINGS, place),
     }
 }
-
-// The first edition.
-pub const FIRST_EDITION: Edition = Edition {
-    booleans: 21,
-    numbers: 8,
-    strings: 138,
-};

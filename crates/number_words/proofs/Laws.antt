@@ -13,11 +13,11 @@ use lib.Seq.{take-suc, take-length}
 use mir.Syntax.{w32}
 use mir.Val.{toZ}
 use mir.Facts.{toZ-pos, toZ-neg}
-use borrow.Author.Tests.{eq-eqb, ne-eqb, le-leb, lt-leb, leb-false}
+use borrow.Author.Tests.{eq-eqb, ne-eqb, le-leb, lt-leb, leb-true, leb-false}
 use Rattle.base.specs.If.{if_then_else_}
 use Rattle.expansion.specs.Items.{isDigit, decimal}
 use Rattle.number_words.specs.declared.Parsed.the-variants.{Value, Wrong}
-use Rattle.number_words.specs.Number.{areDigits, signedOf, numeralOf, valueOf, withDigit, magnitudeOf, noMagnitude}
+use Rattle.number_words.specs.Number.{areDigits, signedOf, numeralOf, valueOf, limited, noMagnitude, withDigit, magnitudeOf}
 
 -- ---- one digit more
 
@@ -47,15 +47,16 @@ magnitude-more s c = rw (digits-more s c, decimal-more 0 s c) (by-tests (areDigi
     v : ℕ
     v = decimal 0 s
 
-    w : ℕ
-    w = v * 10 + (c - 48)
-
     by-tests : (a b t : Bool) → leb v 2147483648 ≡ t
-        → (if a && b then (if leb w 2147483648 then w else noMagnitude) else noMagnitude)
-        ≡ (let n : ℕ = if a then (if t then v else noMagnitude) else noMagnitude in
-        if b then (if leb n 2147483648 then (if leb (n * 10 + (c - 48)) 2147483648 then n * 10 + (c - 48) else noMagnitude) else noMagnitude) else noMagnitude)
-    by-tests true true true e = rw e
-    by-tests true true false e = rw (lt-leb w 2147483648 (let l : 2147483648 < v = leb-false v 2147483648 e in omega arith))
+        → (if a && b then limited (v * 10 + (c - 48)) else noMagnitude)
+        ≡ (let n : ℕ = if a then (if t then v else 2147483649) else noMagnitude in
+        if b then (if leb n 2147483649 then limited (n * 10 + (c - 48)) else noMagnitude) else noMagnitude)
+    by-tests true true true e =
+        let l : v ≤ 2147483648 = leb-true v 2147483648 e in
+        rw (le-leb v 2147483649 (omega arith))
+    by-tests true true false e =
+        let l : 2147483648 < v = leb-false v 2147483648 e in
+        rw (lt-leb (v * 10 + (c - 48)) 2147483648 (omega arith), lt-leb (21474836490 + (c - 48)) 2147483648 (omega arith))
     by-tests true false t e = refl
     by-tests false true t e = refl
     by-tests false false t e = refl
@@ -86,17 +87,17 @@ pub digit-above : (n c : ℕ) → 48 ≤ c → 57 < c → noMagnitude ≡ withDi
 unfolding withDigit
 digit-above n c l h = rw (le-leb 48 c l, lt-leb c 57 h)
 
-pub digit-large : (n c : ℕ) → 48 ≤ c → c ≤ 57 → 2147483648 < n → noMagnitude ≡ withDigit n c
+pub digit-none : (n c : ℕ) → 48 ≤ c → c ≤ 57 → 2147483649 < n → noMagnitude ≡ withDigit n c
 unfolding withDigit
-digit-large n c l h k = rw (le-leb 48 c l, le-leb c 57 h, lt-leb n 2147483648 k)
+digit-none n c l h k = rw (le-leb 48 c l, le-leb c 57 h, lt-leb n 2147483649 k)
 
-pub digit-too-many : (n c : ℕ) → 48 ≤ c → c ≤ 57 → n ≤ 2147483648 → 2147483648 < n * 10 + (c - 48) → noMagnitude ≡ withDigit n c
+pub digit-large : (n c : ℕ) → 48 ≤ c → c ≤ 57 → n ≤ 2147483649 → 2147483648 < n * 10 + (c - 48) → 2147483649 ≡ withDigit n c
 unfolding withDigit
-digit-too-many n c l h k m = rw (le-leb 48 c l, le-leb c 57 h, le-leb n 2147483648 k, lt-leb _ _ m)
+digit-large n c l h k m = rw (le-leb 48 c l, le-leb c 57 h, le-leb n 2147483649 k, lt-leb _ _ m)
 
-pub digit-fits : (n c : ℕ) → 48 ≤ c → c ≤ 57 → n ≤ 2147483648 → n * 10 + (c - 48) ≤ 2147483648 → n * 10 + (c - 48) ≡ withDigit n c
+pub digit-fits : (n c : ℕ) → 48 ≤ c → c ≤ 57 → n ≤ 2147483649 → n * 10 + (c - 48) ≤ 2147483648 → n * 10 + (c - 48) ≡ withDigit n c
 unfolding withDigit
-digit-fits n c l h k m = rw (le-leb 48 c l, le-leb c 57 h, le-leb n 2147483648 k, le-leb _ _ m)
+digit-fits n c l h k m = rw (le-leb 48 c l, le-leb c 57 h, le-leb n 2147483649 k, le-leb _ _ m)
 
 -- ---- signs
 
@@ -132,7 +133,7 @@ numeral-is minus s z = rw (ne-eqb (length s) 0 z) (by-tests minus (areDigits s) 
     v = decimal 0 s
 
     by-tests : (minus a t : Bool) → leb v 2147483648 ≡ t
-        → signedOf minus (if a then (if t then v else noMagnitude) else noMagnitude) ≡ (if a then signedOf minus v else Wrong)
+        → signedOf minus (if a then (if t then v else 2147483649) else noMagnitude) ≡ (if a then signedOf minus v else Wrong)
     by-tests minus true true e = refl
     by-tests true true false e = rw e
     by-tests false true false e = rw (lt-leb v 2147483647 (let l : 2147483648 < v = leb-false v 2147483648 e in omega arith))

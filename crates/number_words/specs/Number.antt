@@ -40,19 +40,23 @@ numeralOf minus s = if isNumeral s then signedOf minus (decimal 0 s) else Wrong
 unfoldable pub valueOf : List ℕ → Parsed
 valueOf word = if eqb (getD word 0 0) 45 then numeralOf true (drop 1 word) else numeralOf false word
 
--- ---- what the code goes by: a magnitude that is too large for any number stands for none
+-- ---- digits alone, as the code reads them
 
+-- a larger magnitude is taken as this one, which is no number's
+abbrev pub largeMagnitude : ℕ
+largeMagnitude = 2147483649
+
+abbrev pub limited : ℕ → ℕ
+limited m = if leb m (magnitudeMost true) then m else largeMagnitude
+
+-- stands for the magnitude of what isn't digits
 abbrev pub noMagnitude : ℕ
 noMagnitude = 4294967296
 
 unfoldable pub withDigit : ℕ → ℕ → ℕ
 withDigit n c =
-    if isDigit c then
-    (if leb n (magnitudeMost true) then (if leb (n * 10 + (c - 48)) (magnitudeMost true) then n * 10 + (c - 48)
-    else noMagnitude) else noMagnitude)
+    if isDigit c then (if leb n largeMagnitude then limited (n * 10 + (c - 48)) else noMagnitude)
     else noMagnitude
 
 unfoldable pub magnitudeOf : List ℕ → ℕ
-magnitudeOf s =
-    if areDigits s then (if leb (decimal 0 s) (magnitudeMost true) then decimal 0 s else noMagnitude)
-    else noMagnitude
+magnitudeOf s = if areDigits s then limited (decimal 0 s) else noMagnitude

@@ -1,5 +1,5 @@
-// Numbers as words of a command line. Proved: `parse` gives what specs/Number.antt says of every word. Assumed:
-// nothing.
+// Numbers as words of a command line. Proved: `parse` and `magnitude` give what specs/Number.antt says of every
+// word. Assumed: nothing.
 ghost use mathlib.Core.Path.{_≡_};
 ghost use mathlib.Core.Bool.{true, false};
 ghost use Rattle.number_words.specs.Number.{signedOf, valueOf, withDigit, magnitudeOf};
@@ -11,10 +11,14 @@ pub enum Parsed {
     Wrong,
 }
 
-// The largest magnitude, and a number above it that stands for none.
+// The largest magnitude of a number.
 const MAGNITUDE_MOST: u64 = 2147483648;
 
-const NO_MAGNITUDE: u64 = 4294967296;
+// A larger magnitude is taken as this one.
+pub const LARGE_MAGNITUDE: u64 = 2147483649;
+
+// Stands for the magnitude of what isn't digits.
+pub const NO_MAGNITUDE: u64 = 4294967296;
 
 // A magnitude with a digit more.
 fn with_digit(n: u64, c: u8) -> u64
@@ -26,18 +30,18 @@ fn with_digit(n: u64, c: u8) -> u64
     if b'9' < c {
         return NO_MAGNITUDE;
     }
-    if MAGNITUDE_MOST < n {
+    if LARGE_MAGNITUDE < n {
         return NO_MAGNITUDE;
     }
     let m = n * 10 + (c - b'0') as u64;
     if MAGNITUDE_MOST < m {
-        return NO_MAGNITUDE;
+        return LARGE_MAGNITUDE;
     }
     m
 }
 
-// The magnitude that digits are.
-fn magnitude(digits: &[u8]) -> u64
+// The magnitude that digits are, 0 where there are none.
+pub fn magnitude(digits: &[u8]) -> u64
     ensures { λ r. ⌜ r ≡ magnitudeOf (now (digits .entry)) ⌝ }
 {
     let mut n = 0;

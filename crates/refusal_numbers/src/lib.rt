@@ -120,6 +120,7 @@ pub fn of_compiled(answer: Compiled) -> u8
 {
     match answer {
         Compiled::File(_) => 0,
+        Compiled::Edition => 3,
         Compiled::Length => 1,
         Compiled::Refused(why, _) => of_text(why),
         Compiled::Size => 9,

@@ -1,160 +1,23 @@
--- Laws that the proofs cite: names from their numbers, decimal numbers, lines from their runs.
+-- Laws that the proofs cite: lines from their runs, the counts of an edition.
 -- Assumes nothing.
-use mathlib.Core.Path.{_≡_, refl, sym, ap, subst, _∙_}
-use mathlib.Core.Bool.{Bool, true, false}
-use mathlib.Core.List.{List, [], _∷_, _++_, map, append-assoc, append-nil}
-use Prim.Native.Nat.{ℕ, zero, suc, _+_, _-_, _*_, _/_, _%_, _^_, _≤_, _<_}
-use native.Mathlib.Nat.{pow-suc, one-le-pow}
+use mathlib.Core.Path.{_≡_, refl, sym, ap, _∙_}
+use mathlib.Core.List.{List, [], _∷_, _++_, append-assoc}
+use Prim.Native.Nat.{ℕ, _+_, _-_, _≤_, _<_}
 use native.Mathlib.Omega.{arith}
-use lib.Dec.{ltb}
-use lib.ListN.{length, getD, set, take, length-append, length-take, length-drop, List·getD-map, List·getD-eq-default}
+use lib.ListN.{length, length-take, length-drop}
 use denote.Ref.{RefT, now}
-use borrow.Author.Tests.{eq-eqb, ne-eqb, lt-ltb, ltb-false}
-use Rattle.io.specs.Counts.{Counts}
-use Rattle.io.specs.Digits.{Fewest}
-use Rattle.io.specs.Digits.{digits as lastDigits}
-use Rattle.base.specs.If.{if_then_else_}
-use Rattle.base.specs.Overwrite.{putAt}
-use Rattle.base.proofs.OverwriteLaws.{length-put, put-nil, put-store}
-use Rattle.word.specs.Word.{word, bytes}
-use Rattle.edition.specs.declared.Kind.{Kind}
-use Rattle.edition.specs.declared.Kind.the-variants as Kinds
-use Rattle.edition.specs.declared.Place.{Place}
+use borrow.Author.Tests.{lt-ltb, le-ltb}
+use Rattle.base.specs.Answer.{gives}
+use Rattle.edition.specs.declared.Edition.{Edition}
+use Rattle.edition.specs.Edition.{place, okEdition, booleansMost, numbersMost, stringsMost}
 use Rattle.entry.specs.declared.Part.{Part}
-use Rattle.base.specs.Answer.{refused, gives}
+use Rattle.entry.specs.Asking.{Opening, opening}
+use Rattle.entry_laws.specs.Accepted.{test-passed}
+use Rattle.entry_laws.specs.Merge.{edition-counts}
 use Rattle.states.specs.Held.{IsPart}
-use Rattle.names.specs.Names.{ascii, parted, named, booleanNames, numberNames, stringNames, namesOf}
-use Rattle.names.specs.Naming.{packed, beforeNul, unpacked, naming}
-use Rattle.print.proofs.DigitLaws.{digits-one, digits-more}
 use Rattle.shown.specs.Puts.{Puts, Holds}
-use Rattle.shown.proofs.PutsLaws.{counted, puts-most, puts-then}
-use Rattle.ti_files.proofs.Laws.{digits-most}
-use Rattle.show_lines.specs.Lines.{nameOf, decimal}
-
--- ---- a name's bytes from its number
-
--- of the bytes of a name's number w before its first NUL, those put so far, and the number rest that holds at most left more
-pub record Unpacking (b₀ b : List ℕ) (w rest end : ℕ) : Type 0 where
-  pub left : ℕ
-  pub done : List ℕ
-  pub room : 8 ≤ length b₀
-  pub buffer : b ≡ putAt b₀ 0 done
-  pub behind : end ≡ length done
-  pub places : end + left ≡ 8
-  pub fits : rest < 256 ^ left
-  pub split : unpacked w ≡ done ++ beforeNul (bytes left rest)
-
-pub unpacking-start : (b : List ℕ) (w : ℕ) → 8 ≤ length b → w < 2 ^ 64 → Unpacking b b w w 0
-unfolding unpacked
-unpacking-start b w h l =
-    record {
-      left = 8;
-      done = [];
-      room = h;
-      buffer = sym (put-nil b 0);
-      behind = refl;
-      places = omega arith;
-      fits = omega arith;
-      split = refl;
-    }
-
-left-some : (k rest : ℕ) → rest < 256 ^ k → (rest % 256 ≡ 0 → ⊥) → 0 < k
-left-some zero rest l z = absurd (z (omega arith))
-left-some (suc k) rest l z = omega arith
-
-nul-first : (k rest : ℕ) → rest % 256 ≡ 0 → beforeNul (bytes k rest) ≡ []
-unfolding beforeNul bytes
-nul-first zero rest e = refl
-nul-first (suc k) rest e = rw (eq-eqb (rest % 256) 0 e)
-
-byte-first : (k rest : ℕ) → (rest % 256 ≡ 0 → ⊥) → beforeNul (bytes (suc k) rest) ≡ rest % 256 ∷ beforeNul (bytes k (rest / 256))
-unfolding beforeNul bytes
-byte-first k rest z = rw (ne-eqb (rest % 256) 0 z)
-
-pub unpacking-length : {b₀ b : List ℕ} {w rest end : ℕ} → Unpacking b₀ b w rest end → length b ≡ length b₀
-unpacking-length {b₀} p = ap length (p .buffer) ∙ length-put b₀ 0 (p .done) (omega arith)
-
-pub unpacking-room : {b₀ b : List ℕ} {w rest end : ℕ} → Unpacking b₀ b w rest end → (rest % 256 ≡ 0 → ⊥) → end < 8
-unpacking-room {rest = rest} p z = omega (arith, left-some (p .left) rest (p .fits) z)
-
-pub unpacking-next : {b₀ b : List ℕ} {w rest end : ℕ} → Unpacking b₀ b w rest end → (rest % 256 ≡ 0 → ⊥)
-    → Unpacking b₀ (set b end (rest % 256)) w (rest / 256) (end + 1)
-unpacking-next {b₀} {b} {w} {rest} {end} p z =
-    let k : ℕ = p .left - 1 in
-    let s : p .left ≡ suc k = omega (arith, left-some (p .left) rest (p .fits) z) in
-    let more : List ℕ = p .done ++ (rest % 256 ∷ []) in
-    let f : rest < 256 ^ k * 256 = rw (s, pow-suc 256 k) at (p .fits) in
-    let q : beforeNul (bytes (p .left) rest) ≡ rest % 256 ∷ beforeNul (bytes k (rest / 256)) = ap (λ (j : ℕ). beforeNul (bytes j rest)) s ∙ byte-first k rest z in
-    record {
-      left = k;
-      done = more;
-      room = p .room;
-      buffer = put-store b₀ b 0 end (rest % 256) (p .done) more (p .buffer) (omega arith) refl (omega arith);
-      behind = sym (simp length-append (omega arith));
-      places = omega arith;
-      fits = omega arith;
-      split = p .split ∙ ap (λ (l : List ℕ). p .done ++ l) q ∙ sym (append-assoc (p .done) (rest % 256 ∷ []) (beforeNul (bytes k (rest / 256))));
-    }
-
-pub unpacking-end : {b₀ b : List ℕ} {w rest end : ℕ} → Unpacking b₀ b w rest end → rest % 256 ≡ 0 → Puts b₀ b 0 (unpacked w) 8 end
-unpacking-end {rest = rest} p z =
-    let e : unpacked _ ≡ p .done = p .split ∙ rw (nul-first (p .left) rest z) (append-nil (p .done)) in
-    rw e (record { buffer = p .buffer; behind = omega arith; few = omega arith })
-
--- ---- names
-
--- every name comes back from its number: one computed test for each list
-names-back : (k : Kind) → map unpacked (map packed (namesOf k)) ≡ namesOf k
-unfolding unpacked beforeNul packed word bytes booleanNames numberNames stringNames named parted ascii
-names-back Kinds.Boolean = refl
-names-back Kinds.Number = refl
-names-back Kinds.String = refl
-
-name-known : (k : Kind) (i : ℕ) → unpacked (packed (getD (namesOf k) i [])) ≡ getD (namesOf k) i []
-unfolding unpacked beforeNul packed word bytes
-name-known k i =
-    sym (List·getD-map unpacked (map packed (namesOf k)) i 0 ∙ ap unpacked (List·getD-map packed (namesOf k) i [])) ∙ ap (λ (ns : List (List ℕ)). getD ns i []) (names-back k)
-
-pub name-packed : (k : Kind) (p : Place) (w : ℕ) → gives w ≡ naming k p → unpacked w ≡ nameOf k p
-unfolding naming
-name-packed k p w e = by-test (ltb (p .0) (length (namesOf k))) e
-  where
-    by-test : (t : Bool) → gives w ≡ (if t then gives (packed (nameOf k p)) else refused 17 []) → unpacked w ≡ nameOf k p
-    by-test true q = let n : w ≡ packed (nameOf k p) = cc in ap unpacked n ∙ name-known k (p .0)
-    by-test false q = absurd (let z : _≡_ {A = ℕ} 0 1 = cc in (let y : ⊥ = omega arith in y))
-
-pub name-beyond : (k : Kind) (p : Place) → refused 17 [] ≡ naming k p → [] ≡ nameOf k p
-unfolding naming
-name-beyond k p e = by-test (ltb (p .0) (length (namesOf k))) refl e
-  where
-    by-test : (t : Bool) → ltb (p .0) (length (namesOf k)) ≡ t → refused 17 [] ≡ (if t then gives (packed (nameOf k p)) else refused 17 []) → [] ≡ nameOf k p
-    by-test true h q = absurd (let z : _≡_ {A = ℕ} 0 1 = cc in (let y : ⊥ = omega arith in y))
-    by-test false h q = sym (List·getD-eq-default (namesOf k) [] (ltb-false (p .0) (length (namesOf k)) h))
-
--- ---- decimal numbers
-
-pub digits-of : (k n : ℕ) → Fewest 10 1 n k → lastDigits 10 k n ≡ decimal n
-digits-of zero n f = absurd (omega (arith, f .0))
-digits-of (suc zero) n f =
-    let h : n < 10 = f .1 in
-    let e : n % 10 ≡ n = omega arith in
-    rw (digits-one 10 97 n h, e, lt-ltb n 10 h)
-digits-of (suc (suc k)) n f =
-    let o : 1 ≤ 10 ^ k = one-le-pow k 10 (omega arith) in
-    let s : suc (suc k) - 1 ≡ suc k = omega arith in
-    let s′ : suc k - 1 ≡ k = omega arith in
-    let l : 10 ^ k * 10 ≤ n = rw (s, pow-suc 10 k) at (f .2 (omega arith)) in
-    let u : n < 10 ^ suc k * 10 = rw (pow-suc 10 (suc k)) at (f .1) in
-    let again : lastDigits 10 (suc k) (n / 10) ≡ decimal (n / 10) = digits-of (suc k) (n / 10) (omega arith, omega arith, λ h. rw s′ (omega arith)) in
-    rw (digits-more 10 97 n (omega arith) (omega arith), ← again, lt-ltb (n % 10) 10 (omega arith))
-
--- digits d of which the first k are those of n, and then what stands behind them
-pub number-puts : (b₀ b₁ b₂ d behind : List ℕ) (at middle end n k : ℕ) → n < 2 ^ 64 → Counts k d → Fewest 10 1 n k → take k d ≡ lastDigits 10 k n
-    → at + (20 + length behind) ≤ length b₀ → Puts b₀ b₁ at (take k d) (length (take k d)) middle → Puts b₁ b₂ middle behind (length behind) end
-    → Puts b₀ b₂ at (decimal n ++ behind) (20 + length behind) end
-number-puts b₀ b₁ b₂ d behind at middle end n k h c f e l p q =
-    let m = digits-most n k h f in
-    puts-then (puts-most (subst (λ (xs : List ℕ). Puts b₀ b₁ at xs (length (take k d)) middle) (e ∙ digits-of k n f) p) (omega arith)) q l
+use Rattle.shown.proofs.PutsLaws.{counted, puts-then}
+use Rattle.show_lines.specs.Lines.{booleanLine, numberLine, stringLine, capabilityLine}
 
 -- ---- lines
 
@@ -163,7 +26,7 @@ pub named-puts : {b₀ b₁ b₂ : List ℕ} (name : List ℕ) (sign : ℕ) {ys 
     → m + n ≤ length b₀ → Puts b₀ b₂ 0 (name ++ (sign ∷ ys)) (m + n) end
 named-puts name sign {ys} p q h = rw (append-assoc name (sign ∷ []) ys) at (puts-then p q (omega arith))
 
--- a text, and three numbers each with a text behind it
+-- words, and three numbers each with a text behind it
 pub counts-puts : {b₀ b₁ b₂ b₃ b₄ t : List ℕ} (d₁ t₁ d₂ t₂ d₃ t₃ : List ℕ) {m m₁ m₂ m₃ e₁ e₂ e₃ e₄ : ℕ} → Puts b₀ b₁ 0 t m e₁ → Puts b₁ b₂ e₁ (d₁ ++ t₁) m₁ e₂
     → Puts b₂ b₃ e₂ (d₂ ++ t₂) m₂ e₃ → Puts b₃ b₄ e₃ (d₃ ++ t₃) m₃ e₄ → ((m + m₁) + m₂) + m₃ ≤ length b₀
     → Puts b₀ b₄ 0 (t ++ (d₁ ++ (t₁ ++ (d₂ ++ (t₂ ++ (d₃ ++ t₃)))))) (((m + m₁) + m₂) + m₃) e₄
@@ -176,3 +39,28 @@ holds-none b = (refl, counted 0 b (omega arith))
 -- what lies in a file is no longer than the file
 pub part-short : {whole part : RefT (List ℕ)} {p : Part} → IsPart whole part p → length (now part) ≤ length (now whole)
 part-short h = rw (h .bytes) (simp (length-take, length-drop) (omega arith))
+
+-- ---- an edition that a file opened in
+
+pub opened-counts : (e : Edition) (f : List ℕ) (o : Opening) → gives o ≡ opening e f
+    → (e .booleans ≤ booleansMost) × ((e .numbers ≤ numbersMost) × (e .strings ≤ stringsMost))
+unfolding opening
+opened-counts e f o g = edition-counts e (test-passed (okEdition e) 3 [] _ o (sym g) .0)
+
+-- ---- the k-th capability, by the list that has it
+
+module _ (e : Edition) (f : List ℕ) (k : ℕ) where
+  pub capability-boolean : k < e .booleans → capabilityLine e f k ≡ booleanLine e f (place k)
+  unfolding capabilityLine
+  capability-boolean h = rw (lt-ltb k (e .booleans) h)
+
+  module _ (b : e .booleans ≤ k) where
+    pub capability-number : k - e .booleans < e .numbers → capabilityLine e f k ≡ numberLine e f (place (k - e .booleans))
+    unfolding capabilityLine
+    capability-number h = rw (le-ltb k (e .booleans) b, lt-ltb k (e .booleans + e .numbers) (omega arith))
+
+    pub capability-string : e .numbers ≤ k - e .booleans → capabilityLine e f k ≡ stringLine e f (place (k - e .booleans - e .numbers))
+    unfolding capabilityLine
+    capability-string h =
+        let q : k - (e .booleans + e .numbers) ≡ k - e .booleans - e .numbers = omega arith in
+        rw (le-ltb k (e .booleans) b, le-ltb k (e .booleans + e .numbers) (omega arith), q)

@@ -37,7 +37,7 @@ use Rattle.entry.specs.Says.{saysNames, saysString, saysWritten, saysMerged}
 use Rattle.entry_laws.specs.Demands.{written-only-if}
 use Rattle.entry_laws.specs.MergeDemands.{merged-only-if}
 use Rattle.names.specs.declared.Found.the-variants as F
-use Rattle.names.specs.Names.{booleanNames, numberNames, stringNames}
+use Rattle.names.specs.Names.{booleanNames, numberNames, stringNames, booleansNamed, numbersNamed, stringsNamed, allNamed}
 use Rattle.names.specs.Lookup.{lookingUp}
 use Rattle.names.specs.Naming.{naming}
 use Rattle.names.proofs.LookupLaws.{booleans-length, numbers-length, strings-length}
@@ -244,7 +244,7 @@ numbered-length (gives f) = refl
 
 -- ---- a name's place lies in its list
 
-there-below : (c n : ℕ) (names : List (List ℕ)) (i : ℕ) → length names ≡ n → n ≤ 138
+there-below : (c n : ℕ) (names : List (List ℕ)) (i : ℕ) → length names ≡ n → n ≤ allNamed
     → ltb i (length (take c names)) ≡ true → i < 2 ^ 48
 there-below c n names i e b h =
     let l = ltb-true i (length (take c names)) h in
@@ -263,9 +263,9 @@ pub found-within : (e : Edition) (n : List ℕ) → FoundWithin (lookingUp e n)
 unfolding lookingUp
 found-within e n =
     by-tests _ _ _ _ _ _
-    (there-below (e .booleans) 21 booleanNames _ booleans-length (omega arith))
-    (there-below (e .numbers) 8 numberNames _ numbers-length (omega arith))
-    (there-below (e .strings) 138 stringNames _ strings-length (omega arith))
+    (there-below (e .booleans) booleansNamed booleanNames _ booleans-length (omega arith))
+    (there-below (e .numbers) numbersNamed numberNames _ numbers-length (omega arith))
+    (there-below (e .strings) stringsNamed stringNames _ strings-length (omega arith))
 
 -- ---- listing every state
 

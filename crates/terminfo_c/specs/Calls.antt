@@ -14,16 +14,12 @@ use Rattle.edition.specs.declared.Kind.the-variants as Kinds
 use Rattle.edition.specs.Edition.{place}
 use Rattle.base.specs.Answer.{Answer, refused, gives, mapAnswer, isGiven, bufferAfter}
 use Rattle.entry.specs.Asking.{opening, askingBoolean, askingNumber, askingString}
-use Rattle.entry.specs.Writing.{Handed, writing}
-use Rattle.entry.specs.Merging.{merging}
 use Rattle.list_states.specs.Listing.{Arrays, roomsOf, listing, arraysAfter}
-use Rattle.names.specs.Names.{firstEdition}
 use Rattle.names.specs.Naming.{naming}
 use Rattle.names.specs.declared.Found.{Found}
 use Rattle.names.specs.declared.Found.the-variants as F
 use Rattle.names.specs.Finding.{saysFound}
 use Rattle.names.specs.Lookup.{lookingUp}
-use Rattle.text.specs.Compiling.{compiling}
 use Rattle.expansion.specs.Expanding.{Expanding, counted, lastingAfter, outputAfter}
 use Rattle.c_numbers.specs.Numbers.{numbered, none, refusedNumber, booleanNumber, numberNumber, stringNumber}
 use Rattle.c_numbers.specs.Numbers.{capabilityNumber, expansionNumber}
@@ -73,20 +69,10 @@ pub record ListedNumber (e : Edition) (f : List ℕ) (before after : Arrays) (r 
   pub number : r ≡ numbered none (listing e f (roomsOf before))
   pub lent : after ≡ arraysAfter before (listing e f (roomsOf before))
 
--- the number and the buffer that writing leaves
-pub record WrittenNumber (e : Edition) (h : Handed) (before after : List ℕ) (r : ℕ) : Type 0 where
-  pub number : r ≡ numbered length (writing e h (length before))
-  pub buffer : after ≡ bufferAfter before (writing e h (length before))
-
--- the number and the buffer that merging leaves
-pub record MergedNumber (e : Edition) (a b : List ℕ) (before after : List ℕ) (r : ℕ) : Type 0 where
-  pub number : r ≡ numbered length (merging e a b (length before))
-  pub buffer : after ≡ bufferAfter before (merging e a b (length before))
-
--- the number and the buffer that compiling in the first edition leaves
-pub record CompiledNumber (t : List ℕ) (before after : List ℕ) (r : ℕ) : Type 0 where
-  pub number : r ≡ numbered length (compiling firstEdition t (length before))
-  pub buffer : after ≡ bufferAfter before (compiling firstEdition t (length before))
+-- the number and the buffer that a call leaves which gives a file
+pub record FileNumber (a : Answer (List ℕ)) (before after : List ℕ) (r : ℕ) : Type 0 where
+  pub number : r ≡ numbered length a
+  pub buffer : after ≡ bufferAfter before a
 
 -- the number, the lasting variables and the buffer that expanding leaves
 pub record ExpandedNumber (a : Answer Expanding) (before after : List ℤ) (b : List ℕ) (at : ℕ) (b′ : List ℕ) (r : ℕ) :

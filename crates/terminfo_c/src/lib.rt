@@ -6,11 +6,14 @@ ghost use lib.ListN.{length};
 ghost use Rattle.base.specs.Answer.{mapAnswer};
 ghost use Rattle.entry.specs.Asking.{opening, askingNames};
 ghost use Rattle.entry.specs.Handed.{handed};
+ghost use Rattle.entry.specs.Merging.{merging};
+ghost use Rattle.entry.specs.Writing.{writing};
+ghost use Rattle.text.specs.Compiling.{compiling};
 ghost use Rattle.expansion.specs.Expanding.{expanding};
 ghost use Rattle.c_numbers.specs.Numbers.{numbered, none, partCode, openingArray};
 ghost use Rattle.terminfo_c.specs.Calls.{edition, arrayAfter, booleanState, numberState, stringState};
-ghost use Rattle.terminfo_c.specs.Calls.{asking8, namingBy, WrittenNumber, MergedNumber, CompiledNumber};
-ghost use Rattle.terminfo_c.specs.Calls.{ExpandedNumber, ListedNumber, findNumber, namedState};
+ghost use Rattle.terminfo_c.specs.Calls.{asking8, namingBy, FileNumber, ExpandedNumber, ListedNumber};
+ghost use Rattle.terminfo_c.specs.Calls.{findNumber, namedState};
 ghost use Rattle.list_states.specs.Listing.{arrays};
 use edition::Edition;
 use edition::Kind;
@@ -224,10 +227,11 @@ pub extern "C" fn terminfo_write(
     lent: &[u8],
     buffer: &mut [u8],
 ) -> u64
-    ensures { λ r. ⌜ WrittenNumber (edition booleans numbers strings)
+    ensures { λ r. ⌜ FileNumber (writing (edition booleans numbers strings)
         (handed (now (names .entry)) (now («boolean_kinds» .entry)) (now («number_kinds» .entry))
         (now («number_values» .entry)) (now («string_kinds» .entry)) (now («string_starts» .entry))
-        (now («string_lengths» .entry)) (now (lent .entry))) (now (buffer .entry)) (now (buffer .exit)) r ⌝ }
+        (now («string_lengths» .entry)) (now (lent .entry))) (length (now (buffer .entry))))
+        (now (buffer .entry)) (now (buffer .exit)) r ⌝ }
 {
     let w = write::write(
         Edition {
@@ -258,8 +262,8 @@ pub extern "C" fn terminfo_merge(
     strings: usize,
     buffer: &mut [u8],
 ) -> u64
-    ensures { λ r. ⌜ MergedNumber (edition booleans numbers strings) (now (first .entry)) (now (second .entry))
-        (now (buffer .entry)) (now (buffer .exit)) r ⌝ }
+    ensures { λ r. ⌜ FileNumber (merging (edition booleans numbers strings) (now (first .entry)) (now (second .entry))
+        (length (now (buffer .entry)))) (now (buffer .entry)) (now (buffer .exit)) r ⌝ }
 {
     let m = merge::merge(
         first,
@@ -274,16 +278,31 @@ pub extern "C" fn terminfo_merge(
     c_numbers::merged_number(m)
 }
 
-// Compiles a text in the first edition: the file's length, or the refusal.
+// Compiles a text: the file's length, or the refusal.
 #[no_mangle]
-pub extern "C" fn terminfo_compile(text: &[u8], buffer: &mut [u8]) -> u64
-    ensures { λ r. ⌜ CompiledNumber (now (text .entry)) (now (buffer .entry)) (now (buffer .exit)) r ⌝ }
+pub extern "C" fn terminfo_compile(
+    text: &[u8],
+    booleans: usize,
+    numbers: usize,
+    strings: usize,
+    buffer: &mut [u8],
+) -> u64
+    ensures { λ r. ⌜ FileNumber (compiling (edition booleans numbers strings) (now (text .entry))
+        (length (now (buffer .entry)))) (now (buffer .entry)) (now (buffer .exit)) r ⌝ }
 {
-    let c = compile::compile(text, buffer);
+    let c = compile::compile(
+        Edition {
+            booleans,
+            numbers,
+            strings,
+        },
+        text,
+        buffer,
+    );
     c_numbers::compiled_number(c)
 }
 
-// The name at a place of a kind's list in the first edition: its bytes, low byte first.
+// The name at a place of a kind's list: its bytes, low byte first.
 #[no_mangle]
 pub extern "C" fn terminfo_capability(kind: u8, place: usize) -> u64
     ensures { λ r. ⌜ r ≡ numbered (λ w. w) (namingBy kind place) ⌝ }

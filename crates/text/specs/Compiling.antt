@@ -1,4 +1,4 @@
--- What compiling gives (document 01: Source text; Numbers of refusal, order of text).
+-- What compiling gives (document 01: Source text; Numbers of refusal, order of text; document 02, 2026-01).
 -- Assumes nothing.
 use mathlib.Core.Bool.{not}
 use mathlib.Core.List.{List, [], _∷_}
@@ -7,6 +7,7 @@ use lib.Dec.{leb}
 use lib.ListN.{length}
 use Rattle.base.specs.If.{if_then_else_}
 use Rattle.edition.specs.declared.Edition.{Edition}
+use Rattle.edition.specs.Edition.{okEdition}
 use Rattle.entry.specs.Limits.{givenNamesMost}
 use Rattle.base.specs.Answer.{Answer, refused, gives}
 use Rattle.entry.specs.Reading.{Entry}
@@ -28,9 +29,12 @@ abbrev pub fitted : ℕ → Answer Entry → Answer (List ℕ)
 fitted room (refused n v) = refused n v
 fitted room (gives x) = fittingNamed room x
 
--- "Text: 1 first; then the first bad field"
+-- document 02, 2026-01: "an edition too large is 3, before all else"; "Text: 1 first; then the first bad field"
 unfoldable pub compiling : Edition → List ℕ → ℕ → Answer (List ℕ)
-compiling e t room = if not (leb (length t) textMost) then refused 1 [] else fitted room (describing e t)
+compiling e t room =
+    if not (okEdition e) then refused 3 []
+    else if not (leb (length t) textMost) then refused 1 []
+    else fitted room (describing e t)
 
 -- ---- what each case of an answer says
 
@@ -43,6 +47,7 @@ textNumber R.Limit = 13
 -- what is given is the file's length
 abbrev pub saysCompiled : Compiled → Answer ℕ
 saysCompiled (C.File n) = gives n
+saysCompiled C.Edition = refused 3 []
 saysCompiled C.Length = refused 1 []
 saysCompiled (C.Refused r p) = refused (textNumber r) (p ∷ [])
 saysCompiled C.Size = refused 9 []

@@ -141,6 +141,8 @@ pub enum FieldJudged {
 pub enum Compiled {
     // the file's length
     File(usize),
+    // 3: the edition is too large
+    Edition,
     // 1: the text is longer than 16,384 bytes
     Length,
     // 10 to 13, with the field's first byte, 0 for the header and the names' total

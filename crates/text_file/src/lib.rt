@@ -9,8 +9,8 @@ ghost use Rattle.base.specs.Overwrite.{putAt};
 ghost use Rattle.base.specs.Tabulate.{tabulate};
 ghost use Rattle.edition.specs.Edition.{okEdition};
 ghost use Rattle.base.specs.Answer.{Leaves};
-ghost use Rattle.entry.specs.Writing.{stateOf, stringTable};
-ghost use Rattle.put.specs.Table.{tableBytes};
+ghost use Rattle.entry.specs.State.{present};
+ghost use Rattle.entry.specs.Writing.{stringTable};
 ghost use Rattle.text.specs.Strings.{readAt, readBytes};
 ghost use Rattle.text.specs.Compiling.{fittingNamed, saysCompiled};
 ghost use Rattle.judge.specs.Judged.{StandsAt};
@@ -23,16 +23,12 @@ use entry::PRESENT;
 use text::Compiled;
 use text::TextRefusal;
 
-// A string's part of the table, a present one's bytes and its NUL.
-fn put_string(b: &mut [u8], at: usize, kind: u8, start: usize, size: usize, text: &[u8])
-    requires { ⌜ (at + tableBytes (stateOf kind size) ≤ length (now b))
-        × (kind ≡ 1 → StandsAt (now text) start size) ⌝ }
+// A present string's part of the table: its bytes and its NUL.
+fn put_string(b: &mut [u8], at: usize, start: usize, size: usize, text: &[u8])
+    requires { ⌜ (at + size + 1 ≤ length (now b)) × StandsAt (now text) start size ⌝ }
     ensures { λ _. ⌜ now (b .exit) ≡ putAt (now (b .entry)) at
-        (stringTable (stateOf kind (readBytes (readAt (now (text .entry)) start)) ∷ [])) ⌝ }
+        (stringTable (present (readBytes (readAt (now (text .entry)) start)) ∷ [])) ⌝ }
 {
-    if kind != PRESENT {
-        return;
-    }
     contents::put_read(b, at, text, start, size);
     b[at + size] = 0;
 }
@@ -55,10 +51,11 @@ fn put_table(
     let mut p = at;
     let mut i = 0;
     while i < n {
-        let kind = kinds[i];
-        let size = lengths[i];
-        put_string(b, p, kind, starts[i], size, text);
-        p += put::bytes_in_table(kind, size);
+        if kinds[i] == PRESENT {
+            let size = lengths[i];
+            put_string(b, p, starts[i], size, text);
+            p += size + 1;
+        }
         i += 1;
     }
 }

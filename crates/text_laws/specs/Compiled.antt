@@ -33,6 +33,7 @@ use Rattle.text_laws.specs.HeadingLaws.{names-free, names-some, header-r
 
 -- what a text must meet, room apart: x is the entry that it describes
 pub record TextMeets (e : Edition) (t : List ℕ) (x : Entry) : Type 0 where
+  pub edition : okEdition e ≡ true
   pub short : length t ≤ textMost
   pub describes : describing e t ≡ gives x
   pub total : length (x .names) ≤ givenNamesMost
@@ -43,6 +44,7 @@ pub compiled-if : (e : Edition) (t : List ℕ) (room : ℕ) (x : Entry) → Text
 unfolding compiling fittingNamed
 compiled-if e t room x m h =
     rw (
+      m .edition,
       le-leb (length t) textMost (m .short),
       m .describes,
       le-leb (length (x .names)) givenNamesMost (m .total),
@@ -61,13 +63,16 @@ pub compiled-only-if : (e : Edition) (t : List ℕ) (room : ℕ) (f : List ℕ) 
     → CompiledFrom e t room f
 unfolding compiling fittingNamed
 compiled-only-if e t room f w =
-    let p = test-passed (leb (length t) textMost) 1 [] (fitted room (describing e t)) f w in
-    by-entry (leb-true _ _ (p .0)) (describing e t) refl (p .1)
+    let a₁ : Answer (List ℕ) = fitted room (describing e t) in
+    let a₀ : Answer (List ℕ) = if not (leb (length t) textMost) then refused 1 [] else a₁ in
+    let o = test-passed (okEdition e) 3 [] a₀ f w in
+    let p = test-passed (leb (length t) textMost) 1 [] a₁ f (o .1) in
+    by-entry (o .0) (leb-true _ _ (p .0)) (describing e t) refl (p .1)
   where
-    by-entry : length t ≤ textMost → (a : Answer Entry) → describing e t ≡ a → fitted room a ≡ gives f
-        → CompiledFrom e t room f
-    by-entry l (refused n v) q u = absurd (let z : _≡_ {A = ℕ} 0 1 = cc in (let y : ⊥ = omega arith in y))
-    by-entry l (gives x) q u =
+    by-entry : okEdition e ≡ true → length t ≤ textMost → (a : Answer Entry) → describing e t ≡ a
+        → fitted room a ≡ gives f → CompiledFrom e t room f
+    by-entry o l (refused n v) q u = absurd (let z : _≡_ {A = ℕ} 0 1 = cc in (let y : ⊥ = omega arith in y))
+    by-entry o l (gives x) q u =
         let n : ℕ = length (encode x) in
         let a₃ : Answer (List ℕ) = if not (leb n room) then refused 8 (n ∷ []) else gives (encode x) in
         let a₂ : Answer (List ℕ) = if not (leb n fileMost) then refused 9 [] else a₃ in
@@ -76,7 +81,14 @@ compiled-only-if e t room f w =
         let p₃ = test-passed (leb n room) 8 (n ∷ []) (gives (encode x)) f (p₂ .1) in
         record {
           entry = x;
-          meets = record { short = l; describes = q; total = leb-true _ _ (p₁ .0); size = leb-true _ _ (p₂ .0) };
+          meets =
+              record {
+                edition = o;
+                short = l;
+                describes = q;
+                total = leb-true _ _ (p₁ .0);
+                size = leb-true _ _ (p₂ .0);
+              };
           fits = leb-true _ _ (p₃ .0);
           file = cc (p₃ .1);
         }
@@ -113,17 +125,16 @@ described-sound e t x w = by-line (lineAt t 0) w
     by-line (Column i) u = by-header i (headerAt t i) refl u
     by-line (Indented i) u = no u
 
-pub compiled-holds : (e : Edition) (t : List ℕ) (room : ℕ) (f : List ℕ) → okEdition e ≡ true
-    → (w : compiling e t room ≡ gives f)
+pub compiled-holds : (e : Edition) (t : List ℕ) (room : ℕ) (f : List ℕ) → (w : compiling e t room ≡ gives f)
     → WrittenIn e (compiled-only-if e t room f w .entry) f
-compiled-holds e t room f o w =
+compiled-holds e t room f w =
     let c = compiled-only-if e t room f w in
     let m = c .meets in
     let d = described-sound e t (c .entry) (m .describes) in
     record {
       sound =
           record {
-            edition = subst (λ (k : Edition). okEdition k ≡ true) (sym (d .states .edition)) o;
+            edition = subst (λ (k : Edition). okEdition k ≡ true) (sym (d .states .edition)) (m .edition);
             named = d .named;
             namesMost = m .total;
             namesFree = d .namesFree;

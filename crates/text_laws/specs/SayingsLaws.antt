@@ -65,7 +65,7 @@ module _ (e : Edition) (t : List ℕ) where
   -- ---- reading, by the line at its place
 
   module _ (r : FieldsRead) where
-    read-end : nextAt t (r .at) ≡ End → sayingsRead e t r ≡ gives (r .sayings)
+    pub read-end : nextAt t (r .at) ≡ End → sayingsRead e t r ≡ gives (r .sayings)
     unfolding sayingsRead
     read-end q = loop-stop _ (sayingsTurn e t) falls (refused 0 []) r (gives (r .sayings)) (turn-line r End q)
 
@@ -80,7 +80,7 @@ module _ (e : Edition) (t : List ℕ) where
     read-bad p n v q w =
         loop-stop _ (sayingsTurn e t) falls (refused 0 []) r (refused n v) (turn-field r p (refused n v) q w)
 
-    read-field : (p : ℕ) (j : Judging) → nextAt t (r .at) ≡ Indented p → judging e t p ≡ gives j
+    pub read-field : (p : ℕ) (j : Judging) → nextAt t (r .at) ≡ Indented p → judging e t p ≡ gives j
         → sayingsRead e t r ≡ sayingsRead e t (withField (r .sayings) p j)
     unfolding sayingsRead
     read-field p j q w =

@@ -12,6 +12,7 @@ pub fn list_rest() -> Status {
                 b"A FILE, A or B that is - is standard input; OUT is a file. A file that is named - is ./-, and\n",
             )
             & say(b"behind -- no word is an option.\n")
+            & say(b"-e EDITION is 1, 2 or B,N,S; without it the second edition is taken.\n")
             & say(b"Exit status: 0 done, 1 refused, 2 wrong usage, or input or output failed.\n"),
     )
 }

@@ -1,36 +1,36 @@
-// `ti check FILE`: judges a compiled file, through the library only. Proved: it is safe and ends, and it accepts what
-// `reading` of entry/specs accepts. Assumed: what libc and os say of C.
+// `ti check [-e EDITION] FILE`: judges a compiled file, through the library only. Proved: it is safe and ends, and it
+// opens the file as `opening` of entry/specs says. Assumed: what libc and os say of C.
+use edition::Edition;
+use entry::Opened;
 use ti_common::FILE_ROOM;
 use ti_common::Status;
 use ti_common::words::Task;
 use ti_common::words::Words;
+use ti_options::Outcome;
 
 fn describe(words: Words) -> Status {
     ti_common::words::describe(
         words,
-        b"check FILE",
-        b"Says that the compiled file is accepted, or why it is refused.\n",
+        b"check [-e EDITION] FILE",
+        b"Says that the compiled file is accepted in the second edition, or the one behind -e: 1, 2 or its\n\
+            three counts, as 21,8,138; or why it is refused.\n",
     )
 }
 
 fn misuse() -> Status {
-    ti_common::words::misuse(b"check FILE")
+    ti_common::words::misuse(b"check [-e EDITION] FILE")
 }
 
 // Says whether the file is accepted.
-fn judge_file(path: &[u8], file: &[u8]) -> Status {
-    if !ti_refusals::accept(path, file) {
-        return Status::Refused;
+fn judge_file(path: &[u8], file: &[u8], edition: Edition) -> Status {
+    match ti_refusals::open(path, file, edition) {
+        Opened::Entry(_, _) => ti_common::say_size(b"accepted: ", file),
+        Opened::Refused(_) => Status::Refused,
     }
-    ti_common::say_size(b"accepted: ", file)
 }
 
-fn check(words: Words) -> Status {
-    let taken = ti_common::words::take_options(words, ti_common::words::NO_FLAG);
-    let operands = taken.words;
-    if !taken.ok {
-        return misuse();
-    }
+// Takes the path.
+fn check_operands(operands: Words, edition: Edition) -> Status {
     if ti_common::words::count(operands) != 1 {
         return misuse();
     }
@@ -46,7 +46,17 @@ fn check(words: Words) -> Status {
         return Status::Failed;
     }
     let k = ti_common::part(got.length, &file);
-    judge_file(&path[..n], &file[..k])
+    judge_file(&path[..n], &file[..k], edition)
+}
+
+fn check(words: Words) -> Status {
+    let options = ti_options::take(words, ti_options::NO_FLAG);
+    let outcome = options.outcome;
+    match outcome {
+        Outcome::Taken => check_operands(options.words, options.edition),
+        Outcome::Wrong => misuse(),
+        Outcome::Large => ti_refusals::refuse_edition(),
+    }
 }
 
 pub fn run(words: Words) -> Status {

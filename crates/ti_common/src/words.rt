@@ -26,28 +26,6 @@ pub struct Word {
     pub length: usize,
 }
 
-// What a word is where options may stand.
-pub enum WordKind {
-    Operand,
-    // `--`, behind which no option stands
-    End,
-    Flag,
-    Unknown,
-}
-
-// The words behind the options, and whether the flag stood among these; not ok where another stood there.
-pub struct Taken {
-    pub ok: bool,
-    pub is_set: bool,
-    pub words: Words,
-}
-
-// The most options that are taken.
-const OPTIONS_END: u16 = 1000;
-
-// No flag: no word holds this byte.
-pub const NO_FLAG: u8 = 0;
-
 // Whether two words are the same.
 pub fn is_same(a: &[u8], b: &[u8]) -> bool {
     if a.len() != b.len() {
@@ -90,94 +68,6 @@ pub fn count(words: Words) -> usize {
         return 0;
     }
     all - first
-}
-
-// What a word is, by its bytes.
-fn kind_of(word: &[u8], flag: u8) -> WordKind {
-    if word.len() < 2 {
-        return WordKind::Operand;
-    }
-    if word[0] != b'-' {
-        return WordKind::Operand;
-    }
-    if word.len() != 2 {
-        return WordKind::Unknown;
-    }
-    if word[1] == b'-' {
-        return WordKind::End;
-    }
-    if word[1] == flag {
-        return WordKind::Flag;
-    }
-    WordKind::Unknown
-}
-
-// What the word at a place among all is; says that an option is unknown.
-fn kind_at(place: u16, flag: u8) -> WordKind {
-    let mut word = io::buffer();
-    let n = os::arg(place as usize, &mut word);
-    match kind_of(&word[..n], flag) {
-        WordKind::Operand => WordKind::Operand,
-        WordKind::End => WordKind::End,
-        WordKind::Flag => WordKind::Flag,
-        WordKind::Unknown => {
-            complain(b"ti: unknown option ");
-            crate::output::complain_quoted(&word[..n]);
-            complain(b"\n");
-            WordKind::Unknown
-        }
-    }
-}
-
-// The words from a place on.
-fn words_from(words: Words, first: u16) -> Words {
-    let task = words.task;
-    let is_terminal = words.is_terminal;
-    Words {
-        first,
-        task,
-        is_terminal,
-    }
-}
-
-// Takes the options that stand before the operands.
-pub fn take_options(words: Words, flag: u8) -> Taken {
-    let mut first = words.first;
-    let mut is_set = false;
-    while first < OPTIONS_END {
-        match kind_at(first, flag) {
-            WordKind::Operand => {
-                return Taken {
-                    ok: true,
-                    is_set,
-                    words: words_from(words, first),
-                };
-            }
-            WordKind::End => {
-                return Taken {
-                    ok: true,
-                    is_set,
-                    words: words_from(words, first + 1),
-                };
-            }
-            WordKind::Flag => {
-                is_set = true;
-            }
-            WordKind::Unknown => {
-                return Taken {
-                    ok: false,
-                    is_set,
-                    words,
-                };
-            }
-        }
-        first += 1;
-    }
-    Taken {
-        ok: false,
-        is_set,
-        words,
-    }
 }
 
 // Says how a command is called.

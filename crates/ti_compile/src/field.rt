@@ -5,16 +5,10 @@ use text::TextRefusal;
 use ti_common::complain;
 use ti_common::output::complain_quoted;
 
-// The edition that texts are compiled in.
-const EDITION: Edition = names::FIRST_EDITION;
-
 // Says a name that is unknown, or whose capability is written in another way.
-fn complain_unknown(name: &[u8]) {
-    match lookup::find(name, EDITION) {
-        Found::Unknown => {
-            complain(b"unknown capability ");
-            complain_quoted(name);
-        }
+fn complain_unknown(name: &[u8], edition: Edition) {
+    match lookup::find(name, edition) {
+        Found::Unknown => ti_refusals::complain_unknown(name),
         Found::Boolean(_) => {
             complain_quoted(name);
             complain(b" is a boolean, which is written alone");
@@ -31,9 +25,9 @@ fn complain_unknown(name: &[u8]) {
 }
 
 // Says the limit that a capability of the name is past.
-fn complain_limit(name: &[u8]) {
+fn complain_limit(name: &[u8], edition: Edition) {
     complain_quoted(name);
-    match lookup::find(name, EDITION) {
+    match lookup::find(name, edition) {
         Found::Unknown => complain(b" is past a limit"),
         Found::Boolean(_) => complain(b" is past a limit"),
         Found::Number(_) => complain(b" is above 32,767, or has more than 99 digits"),
@@ -51,17 +45,23 @@ fn complain_malformed(column: usize) {
 }
 
 // Says what is wrong with a field of the name.
-fn complain_named(name: &[u8], why: TextRefusal, column: usize) {
+fn complain_named(name: &[u8], edition: Edition, why: TextRefusal, column: usize) {
     match why {
         TextRefusal::Malformed => complain_malformed(column),
-        TextRefusal::Unknown => complain_unknown(name),
+        TextRefusal::Unknown => complain_unknown(name, edition),
         TextRefusal::Use => complain(b"use= is not covered"),
-        TextRefusal::Limit => complain_limit(name),
+        TextRefusal::Limit => complain_limit(name, edition),
     }
 }
 
 // Says what is wrong with the field at a place.
-pub fn complain_field(text: &[u8], why: TextRefusal, place: usize, column: usize) {
+pub fn complain_field(
+    text: &[u8],
+    edition: Edition,
+    why: TextRefusal,
+    place: usize,
+    column: usize,
+) {
     let end = text_bytes::name_end(text, place);
     if text.len() < end {
         return;
@@ -69,5 +69,5 @@ pub fn complain_field(text: &[u8], why: TextRefusal, place: usize, column: usize
     if end < place {
         return;
     }
-    complain_named(&text[place..end], why, column);
+    complain_named(&text[place..end], edition, why, column);
 }

@@ -1,9 +1,10 @@
-// `ti compile [FILE] OUT`: compiles source text, through the library only (document 01). Proved: it is safe and ends;
-// a refusal's number is that of text/specs; line and column are those of positions/specs. Assumed: what libc and os
-// say of C.
+// `ti compile [-e EDITION] [FILE] OUT`: compiles source text, through the library only (document 01). Proved: it is
+// safe and ends; a refusal's number is that of text/specs; line and column are those of positions/specs. Assumed: what
+// libc and os say of C.
 ghost use Prim.Native.Nat.{_≤_};
 ghost use lib.ListN.{length};
 ghost use Rattle.positions.specs.Taken.{textRoom};
+use edition::Edition;
 use entry::FILE_MOST;
 use text::Compiled;
 use text::TEXT_MOST;
@@ -11,6 +12,7 @@ use text::TextRefusal;
 use ti_common::Status;
 use ti_common::words::Task;
 use ti_common::words::Words;
+use ti_options::Outcome;
 use ti_refusals::refuse;
 
 mod field;
@@ -22,13 +24,14 @@ const TEXT_ROOM: usize = TEXT_MOST + 1;
 fn describe(words: Words) -> Status {
     ti_common::words::describe(
         words,
-        b"compile [FILE] OUT",
-        b"Compiles the description in FILE, or on standard input, in the first edition, to the file OUT.\n",
+        b"compile [-e EDITION] [FILE] OUT",
+        b"Compiles the description in FILE, or on standard input, to the file OUT, in the second edition, or\n\
+            the one behind -e: 1, 2 or its three counts, as 21,8,138.\n",
     )
 }
 
 fn misuse() -> Status {
-    ti_common::words::misuse(b"compile [FILE] OUT")
+    ti_common::words::misuse(b"compile [-e EDITION] [FILE] OUT")
 }
 
 // Says that the header is refused, or the names' total.
@@ -48,7 +51,14 @@ fn refuse_header(source: &[u8], why: TextRefusal, number: u8) -> Status {
 }
 
 // Says that a text is refused at a field, or for its header, and shows the line to a terminal.
-fn refuse_at(source: &[u8], text: &[u8], why: TextRefusal, place: usize, is_shown: bool) -> Status
+fn refuse_at(
+    source: &[u8],
+    text: &[u8],
+    edition: Edition,
+    why: TextRefusal,
+    place: usize,
+    is_shown: bool,
+) -> Status
     requires { ⌜ length (now text) ≤ textRoom ⌝ }
 {
     let number = refusal_numbers::of_text(why);
@@ -62,7 +72,7 @@ fn refuse_at(source: &[u8], text: &[u8], why: TextRefusal, place: usize, is_show
     ti_common::complain(b":");
     ti_common::complain_number(p.column);
     ti_common::complain(b": ");
-    field::complain_field(text, why, place, p.column);
+    field::complain_field(text, edition, why, place, p.column);
     let status = ti_refusals::end_at(number, place);
     if is_shown {
         line::show(text, place);
@@ -71,19 +81,20 @@ fn refuse_at(source: &[u8], text: &[u8], why: TextRefusal, place: usize, is_show
 }
 
 // Compiles the text and saves the file, or says why not.
-fn compile_text(source: &[u8], text: &[u8], out: &[u8], is_shown: bool) -> Status
+fn compile_text(source: &[u8], text: &[u8], out: &[u8], edition: Edition, is_shown: bool) -> Status
     requires { ⌜ length (now text) ≤ textRoom ⌝ }
 {
     let mut file = [0u8; FILE_MOST];
-    let answer = compile::compile(text, &mut file);
+    let answer = compile::compile(edition, text, &mut file);
     let number = refusal_numbers::of_compiled(answer);
     match answer {
         Compiled::File(n) => {
             let k = ti_common::part(n, &file);
             ti_files::save::save_saying(out, &file[..k], b"compiled: ")
         }
+        Compiled::Edition => ti_refusals::refuse_edition(),
         Compiled::Length => refuse(source, b"the text is longer than 16,384 bytes", number),
-        Compiled::Refused(why, place) => refuse_at(source, text, why, place, is_shown),
+        Compiled::Refused(why, place) => refuse_at(source, text, edition, why, place, is_shown),
         Compiled::Size => refuse(
             source,
             b"the compiled file would be longer than 4,096 bytes",
@@ -94,7 +105,7 @@ fn compile_text(source: &[u8], text: &[u8], out: &[u8], is_shown: bool) -> Statu
 }
 
 // Reads the text and compiles it.
-fn compile_from(source: &[u8], out: &[u8], is_shown: bool) -> Status {
+fn compile_from(source: &[u8], out: &[u8], edition: Edition, is_shown: bool) -> Status {
     if !ti_files::save::is_output(out) {
         return Status::Failed;
     }
@@ -104,22 +115,22 @@ fn compile_from(source: &[u8], out: &[u8], is_shown: bool) -> Status {
         return Status::Failed;
     }
     let k = ti_common::part(got.length, &text);
-    compile_text(source, &text[..k], out, is_shown)
+    compile_text(source, &text[..k], out, edition, is_shown)
 }
 
 // Compiles standard input.
-fn compile_standard(operands: Words) -> Status {
+fn compile_standard(operands: Words, edition: Edition) -> Status {
     let mut out = io::buffer();
     let named = ti_common::words::operand(operands, 0, &mut out);
     if !named.ok {
         return Status::Failed;
     }
     let n = named.length;
-    compile_from(b"-", &out[..n], operands.is_terminal)
+    compile_from(b"-", &out[..n], edition, operands.is_terminal)
 }
 
 // Compiles the file that is named.
-fn compile_named(operands: Words) -> Status {
+fn compile_named(operands: Words, edition: Edition) -> Status {
     let mut source = io::buffer();
     let mut out = io::buffer();
     let first = ti_common::words::operand(operands, 0, &mut source);
@@ -129,19 +140,24 @@ fn compile_named(operands: Words) -> Status {
     }
     let m = first.length;
     let n = second.length;
-    compile_from(&source[..m], &out[..n], operands.is_terminal)
+    compile_from(&source[..m], &out[..n], edition, operands.is_terminal)
+}
+
+fn compile_operands(operands: Words, edition: Edition) -> Status {
+    match ti_common::words::count(operands) {
+        1 => compile_standard(operands, edition),
+        2 => compile_named(operands, edition),
+        _ => misuse(),
+    }
 }
 
 fn compile_words(words: Words) -> Status {
-    let taken = ti_common::words::take_options(words, ti_common::words::NO_FLAG);
-    let operands = taken.words;
-    if !taken.ok {
-        return misuse();
-    }
-    match ti_common::words::count(operands) {
-        1 => compile_standard(operands),
-        2 => compile_named(operands),
-        _ => misuse(),
+    let options = ti_options::take(words, ti_options::NO_FLAG);
+    let outcome = options.outcome;
+    match outcome {
+        Outcome::Taken => compile_operands(options.words, options.edition),
+        Outcome::Wrong => misuse(),
+        Outcome::Large => ti_refusals::refuse_edition(),
     }
 }
 

@@ -1,5 +1,5 @@
-// `ti expand [-v] FILE CAPABILITY [NUMBER]..`: expands a capability of a compiled file with up to nine numbers,
-// through the library only. The output goes to standard output as it is; with -v, shown, and then the steps.
+// `ti expand [-v] [-e EDITION] FILE CAPABILITY [NUMBER]..`: expands a capability of a compiled file with up to nine
+// numbers, through the library only. The output goes to standard output as it is; with -v, shown, and then the steps.
 // Proved: it is safe and ends; a word's number is that of number_words/specs, what is expanded is the file's string, a
 // refusal's number is that of expansion/specs; what stands for a byte is what shown/specs says. Assumed: what libc and
 // os say of C.
@@ -7,11 +7,10 @@ ghost use mathlib.Core.Path.{_≡_};
 ghost use Prim.Native.Nat.{_≤_};
 ghost use Rattle.entry.specs.Asking.{opening};
 ghost use Rattle.entry.specs.Says.{saysOpened};
-ghost use Rattle.names.specs.Names.{firstEdition};
+use edition::Edition;
 use edition::Place;
 use entry::Opened;
 use expansion::Expansion;
-use names::FIRST_EDITION;
 use names::Found;
 use number_words::Parsed;
 use shown::CONTENT_LEAST;
@@ -24,6 +23,7 @@ use ti_common::say;
 use ti_common::say_number;
 use ti_common::words::Task;
 use ti_common::words::Words;
+use ti_options::Outcome;
 
 mod opened;
 
@@ -36,14 +36,15 @@ const OPERANDS_MOST: usize = 11;
 fn describe(words: Words) -> Status {
     ti_common::words::describe(
         words,
-        b"expand [-v] FILE CAPABILITY [NUMBER]..",
+        b"expand [-v] [-e EDITION] FILE CAPABILITY [NUMBER]..",
         b"Expands a string capability of a compiled file with up to nine numbers, 0 for those not given, and\n\
-            writes the bytes. With -v they are shown as `ti show` shows them, and then the steps.\n",
+            writes the bytes. With -v they are shown as `ti show` shows them, and then the steps. The file is\n\
+            read in the second edition, or the one behind -e: 1, 2 or its three counts, as 21,8,138.\n",
     )
 }
 
 fn misuse() -> Status {
-    ti_common::words::misuse(b"expand [-v] FILE CAPABILITY [NUMBER]..")
+    ti_common::words::misuse(b"expand [-v] [-e EDITION] FILE CAPABILITY [NUMBER]..")
 }
 
 // What the word at a place gives as a number; 0 where there is none.
@@ -184,16 +185,17 @@ fn refuse_state(path: &[u8], name: &[u8], state: &[u8]) -> Status {
 fn expand_string(
     path: &[u8],
     file: &[u8],
+    edition: Edition,
     opened: Opened,
     name: &[u8],
     place: Place,
     values: [i32; 9],
     is_verbose: bool,
 ) -> Status
-    requires { ⌜ saysOpened opened ≡ opening firstEdition (now file) ⌝ }
+    requires { ⌜ saysOpened opened ≡ opening edition (now file) ⌝ }
 {
     let mut out = [0u8; OUTPUT_ROOM];
-    match opened::expand_opened(file, opened, place, values, &mut out, 0) {
+    match opened::expand_opened(file, edition, opened, place, values, &mut out, 0) {
         ExpandedString::Absent => refuse_state(path, name, b" is absent\n"),
         ExpandedString::Cancelled => refuse_state(path, name, b" is cancelled\n"),
         ExpandedString::Expansion(answer) => say_expansion(path, name, &out, answer, is_verbose),
@@ -214,17 +216,20 @@ fn refuse_kind(path: &[u8], name: &[u8], kind: &[u8], number: u8) -> Status {
 fn expand_named(
     path: &[u8],
     file: &[u8],
+    edition: Edition,
     opened: Opened,
     name: &[u8],
     values: [i32; 9],
     is_verbose: bool,
 ) -> Status
-    requires { ⌜ saysOpened opened ≡ opening firstEdition (now file) ⌝ }
+    requires { ⌜ saysOpened opened ≡ opening edition (now file) ⌝ }
 {
-    let found = lookup::find(name, FIRST_EDITION);
+    let found = lookup::find(name, edition);
     let number = refusal_numbers::of_found_string(found);
     match found {
-        Found::String(place) => expand_string(path, file, opened, name, place, values, is_verbose),
+        Found::String(place) => {
+            expand_string(path, file, edition, opened, name, place, values, is_verbose)
+        },
         Found::Boolean(_) => refuse_kind(path, name, b" is a boolean", number),
         Found::Number(_) => refuse_kind(path, name, b" is a number", number),
         Found::Unknown => ti_refusals::refuse_unknown(path, name, number),
@@ -235,30 +240,37 @@ fn expand_named(
 fn expand_file(
     path: &[u8],
     file: &[u8],
+    edition: Edition,
     name: &[u8],
     values: [i32; 9],
     is_verbose: bool,
 ) -> Status {
-    let opened = ti_refusals::open(path, file);
+    let opened = ti_refusals::open(path, file, edition);
     match opened {
-        Opened::Entry(_, _) => expand_named(path, file, opened, name, values, is_verbose),
+        Opened::Entry(_, _) => expand_named(path, file, edition, opened, name, values, is_verbose),
         Opened::Refused(_) => Status::Refused,
     }
 }
 
 // Reads the file that is named and expands.
-fn expand_from(path: &[u8], name: &[u8], values: [i32; 9], is_verbose: bool) -> Status {
+fn expand_from(
+    path: &[u8],
+    edition: Edition,
+    name: &[u8],
+    values: [i32; 9],
+    is_verbose: bool,
+) -> Status {
     let mut file = [0u8; FILE_ROOM];
     let got = ti_files::input::read_file(path, &mut file);
     if !got.ok {
         return Status::Failed;
     }
     let k = ti_common::part(got.length, &file);
-    expand_file(path, &file[..k], name, values, is_verbose)
+    expand_file(path, &file[..k], edition, name, values, is_verbose)
 }
 
 // Takes the file, the capability and the numbers.
-fn expand_operands(operands: Words, is_verbose: bool) -> Status {
+fn expand_operands(operands: Words, edition: Edition, is_verbose: bool) -> Status {
     let first = operands.first as usize;
     if !(are_three(first + 2) & are_three(first + 5) & are_three(first + 8)) {
         complain(b"ti: a number is decimal, from -2147483648 to 2147483647\n");
@@ -274,15 +286,11 @@ fn expand_operands(operands: Words, is_verbose: bool) -> Status {
     }
     let m = named.length;
     let n = asked.length;
-    expand_from(&path[..m], &name[..n], values, is_verbose)
+    expand_from(&path[..m], edition, &name[..n], values, is_verbose)
 }
 
-fn expand_words(words: Words) -> Status {
-    let taken = ti_common::words::take_options(words, b'v');
-    let operands = taken.words;
-    if !taken.ok {
-        return misuse();
-    }
+// Takes the operands, if there are as many as there may be.
+fn expand_counted(operands: Words, edition: Edition, is_verbose: bool) -> Status {
     let n = ti_common::words::count(operands);
     if n < 2 {
         return misuse();
@@ -290,7 +298,17 @@ fn expand_words(words: Words) -> Status {
     if OPERANDS_MOST < n {
         return misuse();
     }
-    expand_operands(operands, taken.is_set)
+    expand_operands(operands, edition, is_verbose)
+}
+
+fn expand_words(words: Words) -> Status {
+    let options = ti_options::take(words, b'v');
+    let outcome = options.outcome;
+    match outcome {
+        Outcome::Taken => expand_counted(options.words, options.edition, options.is_set),
+        Outcome::Wrong => misuse(),
+        Outcome::Large => ti_refusals::refuse_edition(),
+    }
 }
 
 pub fn run(words: Words) -> Status {

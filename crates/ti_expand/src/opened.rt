@@ -3,33 +3,33 @@ ghost use mathlib.Core.Path.{_≡_};
 ghost use lib.ListN.{length};
 ghost use Rattle.entry.specs.Asking.{opening};
 ghost use Rattle.entry.specs.Says.{saysOpened};
-ghost use Rattle.names.specs.Names.{firstEdition};
 ghost use Rattle.terminfo.specs.Lent.{expandingAt, WrittenAs};
+use edition::Edition;
 use edition::Place;
 use entry::Opened;
 use entry::StringState;
 use expansion::Expansion;
-use names::FIRST_EDITION;
 use terminfo::ExpandedString;
 
 // Expands the string at a place into the free part of the buffer from at on, as `terminfo::open_expand` does, by what
 // opening answered.
 pub fn expand_opened(
     file: &[u8],
+    edition: Edition,
     opened: Opened,
     place: Place,
     arguments: [i32; 9],
     out: &mut [u8],
     at: usize,
 ) -> ExpandedString
-    requires { ⌜ saysOpened opened ≡ opening firstEdition (now file) ⌝ }
-    ensures { λ r. ⌜ WrittenAs (expandingAt firstEdition (now (file .entry)) place arguments
+    requires { ⌜ saysOpened opened ≡ opening edition (now file) ⌝ }
+    ensures { λ r. ⌜ WrittenAs (expandingAt edition (now (file .entry)) place arguments
         (length (now (out .entry))) at) (now (out .entry)) at (now (out .exit)) r ⌝ }
 {
     if out.len() < at {
         return ExpandedString::Expansion(Expansion::Place);
     }
-    match opened_file::string_if_opened(file, FIRST_EDITION, opened, place) {
+    match opened_file::string_if_opened(file, edition, opened, place) {
         StringState::Present(p) => {
             let string = states::part(file, p);
             let e = expand::expand(string, arguments, terminfo::zero_lasting(), out, at);

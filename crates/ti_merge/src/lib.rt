@@ -1,5 +1,5 @@
-// `ti merge A B OUT`: merges the compiled file A over B to the file OUT, in the first edition and through the library
-// only. Proved: it is safe and ends; a refusal's number is that of entry/specs. Assumed: what libc and os say of C.
+// `ti merge [-e EDITION] A B OUT`: merges the compiled file A over B to the file OUT, through the library only.
+// Proved: it is safe and ends; a refusal's number is that of entry/specs. Assumed: what libc and os say of C.
 use edition::Edition;
 use entry::FILE_MOST;
 use entry::Merged;
@@ -7,22 +7,21 @@ use ti_common::FILE_ROOM;
 use ti_common::Status;
 use ti_common::words::Task;
 use ti_common::words::Words;
+use ti_options::Outcome;
 use ti_refusals::accept;
-
-// The edition that the command merges in.
-const EDITION: Edition = names::FIRST_EDITION;
 
 fn describe(words: Words) -> Status {
     ti_common::words::describe(
         words,
-        b"merge A B OUT",
-        b"Writes the compiled file A over B to the file OUT, in the first edition: A's names, and each state\n\
-            is A's unless it is absent, then B's. A cancelled capability of A stays cancelled.\n",
+        b"merge [-e EDITION] A B OUT",
+        b"Writes the compiled file A over B to the file OUT, in the second edition, or the one behind -e: 1,\n\
+            2 or its three counts, as 21,8,138. The names are A's, and each state is A's unless it is absent,\n\
+            then B's. A cancelled capability of A stays cancelled.\n",
     )
 }
 
 fn misuse() -> Status {
-    ti_common::words::misuse(b"merge A B OUT")
+    ti_common::words::misuse(b"merge [-e EDITION] A B OUT")
 }
 
 // Says which of two files is refused.
@@ -34,9 +33,16 @@ fn refuse_files(a: &[u8], b: &[u8], first: &[u8], second: &[u8]) -> Status {
 }
 
 // Merges two files and saves the file, or says why not.
-fn merge_to(a: &[u8], b: &[u8], out: &[u8], first: &[u8], second: &[u8]) -> Status {
+fn merge_to(
+    a: &[u8],
+    b: &[u8],
+    out: &[u8],
+    first: &[u8],
+    second: &[u8],
+    edition: Edition,
+) -> Status {
     let mut file = [0u8; FILE_MOST];
-    let answer = merge::merge(first, second, EDITION, &mut file);
+    let answer = merge::merge(first, second, edition, &mut file);
     let number = refusal_numbers::of_merged(answer);
     match answer {
         Merged::File(n) => {
@@ -54,18 +60,18 @@ fn merge_to(a: &[u8], b: &[u8], out: &[u8], first: &[u8], second: &[u8]) -> Stat
 }
 
 // Reads the second file and merges.
-fn merge_over(a: &[u8], b: &[u8], out: &[u8], first: &[u8]) -> Status {
+fn merge_over(a: &[u8], b: &[u8], out: &[u8], first: &[u8], edition: Edition) -> Status {
     let mut file = [0u8; FILE_ROOM];
     let got = ti_files::input::read_file(b, &mut file);
     if !got.ok {
         return Status::Failed;
     }
     let k = ti_common::part(got.length, &file);
-    merge_to(a, b, out, first, &file[..k])
+    merge_to(a, b, out, first, &file[..k], edition)
 }
 
 // Reads the files and merges.
-fn merge_files(a: &[u8], b: &[u8], out: &[u8]) -> Status {
+fn merge_files(a: &[u8], b: &[u8], out: &[u8], edition: Edition) -> Status {
     if ti_files::input::is_standard(a) & ti_files::input::is_standard(b) {
         ti_common::complain(b"ti: only one of A and B can be standard input\n");
         return Status::Failed;
@@ -79,11 +85,14 @@ fn merge_files(a: &[u8], b: &[u8], out: &[u8]) -> Status {
         return Status::Failed;
     }
     let k = ti_common::part(got.length, &file);
-    merge_over(a, b, out, &file[..k])
+    merge_over(a, b, out, &file[..k], edition)
 }
 
 // Takes the three paths.
-fn merge_operands(operands: Words) -> Status {
+fn merge_operands(operands: Words, edition: Edition) -> Status {
+    if ti_common::words::count(operands) != 3 {
+        return misuse();
+    }
     let mut a = io::buffer();
     let mut b = io::buffer();
     let mut out = io::buffer();
@@ -96,19 +105,17 @@ fn merge_operands(operands: Words) -> Status {
     let m = first.length;
     let n = second.length;
     let k = third.length;
-    merge_files(&a[..m], &b[..n], &out[..k])
+    merge_files(&a[..m], &b[..n], &out[..k], edition)
 }
 
 fn merge_words(words: Words) -> Status {
-    let taken = ti_common::words::take_options(words, ti_common::words::NO_FLAG);
-    let operands = taken.words;
-    if !taken.ok {
-        return misuse();
+    let options = ti_options::take(words, ti_options::NO_FLAG);
+    let outcome = options.outcome;
+    match outcome {
+        Outcome::Taken => merge_operands(options.words, options.edition),
+        Outcome::Wrong => misuse(),
+        Outcome::Large => ti_refusals::refuse_edition(),
     }
-    if ti_common::words::count(operands) != 3 {
-        return misuse();
-    }
-    merge_operands(operands)
 }
 
 pub fn run(words: Words) -> Status {

@@ -5,18 +5,16 @@ ghost use Rattle.base.specs.Answer.{isGiven};
 ghost use Rattle.entry.specs.Asking.{opening};
 ghost use Rattle.entry.specs.Reading.{reading};
 ghost use Rattle.entry.specs.Says.{saysOpened};
-ghost use Rattle.names.specs.Names.{firstEdition};
 use edition::Edition;
 use entry::FileRefusal;
 use entry::Judged;
 use entry::Opened;
+use names::Found;
+use text::Compiled;
 use ti_common::Status;
 use ti_common::complain;
 use ti_common::complain_number;
 use ti_common::output::complain_quoted;
-
-// The edition that files are opened in.
-const EDITION: Edition = names::FIRST_EDITION;
 
 // Begins a message: the name of what is refused, where `-` is standard input.
 pub fn begin(path: &[u8]) {
@@ -63,11 +61,44 @@ pub fn refuse_room(path: &[u8], needed: usize, number: u8) -> Status {
     end(number)
 }
 
-// Says that no capability has the name.
+// Says that the edition is too large.
+pub fn refuse_edition() -> Status {
+    complain(b"ti: the edition is too large: at most ");
+    complain_number(edition::BOOLEANS_MOST);
+    complain(b" booleans, ");
+    complain_number(edition::NUMBERS_MOST);
+    complain(b" numbers, ");
+    complain_number(edition::STRINGS_MOST);
+    complain(b" strings");
+    end(refusal_numbers::of_compiled(Compiled::Edition))
+}
+
+// Whether a capability of some edition has the name.
+fn is_capability(name: &[u8]) -> bool {
+    match lookup::find(name, names::SECOND_EDITION) {
+        Found::Boolean(_) => true,
+        Found::Number(_) => true,
+        Found::String(_) => true,
+        Found::Unknown => false,
+    }
+}
+
+// Says that no capability has the name, or that the edition knows none of it.
+pub fn complain_unknown(name: &[u8]) {
+    if is_capability(name) {
+        complain_quoted(name);
+        complain(b" is not in the edition");
+    } else {
+        complain(b"unknown capability ");
+        complain_quoted(name);
+    }
+}
+
+// Refuses a name that the edition knows no capability of.
 pub fn refuse_unknown(path: &[u8], name: &[u8], number: u8) -> Status {
     begin(path);
-    complain(b": unknown capability ");
-    complain_quoted(name);
+    complain(b": ");
+    complain_unknown(name);
     end(number)
 }
 
@@ -126,11 +157,11 @@ fn complain_opened(path: &[u8], opened: Opened) {
     }
 }
 
-// Opens a file in the first edition; says why, where it is refused.
-pub fn open(path: &[u8], file: &[u8]) -> Opened
-    ensures { λ r. ⌜ saysOpened r ≡ opening firstEdition (now (file .entry)) ⌝ }
+// Opens a file in an edition; says why, where it is refused.
+pub fn open(path: &[u8], file: &[u8], edition: Edition) -> Opened
+    ensures { λ r. ⌜ saysOpened r ≡ opening edition (now (file .entry)) ⌝ }
 {
-    let opened = read::open(file, EDITION);
+    let opened = read::open(file, edition);
     complain_opened(path, opened);
     opened
 }

@@ -10,19 +10,19 @@ use denote.Laws.{Is}
 use denote.Array.{Array, array-vals}
 use denote.Builtin.{i32}
 use denote.Signed.{sint-vals}
-use Rattle.edition.specs.declared.Edition.{Edition}
 use Rattle.edition.specs.declared.Place.{Place}
 use Rattle.edition.proofs.Edition as E
 use Rattle.edition.proofs.Edition.Laws as E′
 use Rattle.edition.proofs.Place as P
 use Rattle.edition.proofs.Place.Laws as P′
+use Rattle.names.specs.Names.{secondEdition}
 
--- the first edition
-abbrev pub first : Edition
-first = record { booleans = 21; numbers = 8; strings = 138 }
-
-pub is-first : Is E.the-row first (E′.lowered first ∷ [])
-is-first = ((vint w64 21 ∷ [], (vint w64 8 ∷ [], (vint w64 138 ∷ [], tt))), (refl, ((refl, lit< tt), ((refl, lit< tt), ((refl, lit< tt), tt)))))
+-- the second edition
+pub is-second : Is E.the-row secondEdition (E′.lowered secondEdition ∷ [])
+is-second = (
+  (vint w64 (secondEdition .booleans) ∷ [], (vint w64 (secondEdition .numbers) ∷ [], (vint w64 (secondEdition .strings) ∷ [], tt))),
+  (refl, ((refl, lit< tt), ((refl, lit< tt), ((refl, lit< tt), tt)))),
+)
 
 -- the places of lines and cup
 abbrev pub lines : Place

@@ -1,20 +1,13 @@
-// A tour of crate `terminfo`: opens the compiled entry on standard input in the first edition, asks it for its names,
+// A tour of crate `terminfo`: opens the compiled entry on standard input in the second edition, asks it for its names,
 // its lines and its string cup, expands cup at row 3, column 12, and prints what it got. `visit` holds an entry and
 // lends variables: it is proved by a walk.
 // Proved: it is safe and ends. Assumed: what libc says of C.
-use edition::Edition;
 use edition::Place;
 use entry::NumberState;
 use entry::StringState;
 use expansion::Expansion;
 use libc::STDIN_FILENO;
 use libc::STDOUT_FILENO;
-
-const FIRST: Edition = Edition {
-    booleans: names::BOOLEANS,
-    numbers: names::NUMBERS,
-    strings: names::STRINGS,
-};
 
 fn say(bytes: &[u8]) {
     io::write_all(STDOUT_FILENO, bytes);
@@ -53,7 +46,7 @@ fn say_expansion(out: &[u8], answer: Expansion) {
 
 // Opens, asks, expands into out.
 fn visit(file: &[u8], out: &mut [u8]) -> Expansion {
-    let entry = terminfo::open(file, FIRST);
+    let entry = terminfo::open(file, names::SECOND_EDITION);
     let names = terminfo::names_part(entry);
     say(names.bytes);
     say_lines(terminfo::number(entry, Place(2)));

@@ -3,10 +3,11 @@
 //! ```
 //! use chulindafe::{compile, find, Capability, Edition, Entry, State};
 //!
-//! let file = compile(b"console|track console,\n\tam, cols#80, bel@,\n")?;
-//! let entry = Entry::open(&file, Edition::FIRST)?;
-//! let Some(Capability::Number(cols)) = find(b"cols") else { panic!() };
-//! let Some(Capability::String(bel)) = find(b"bel") else { panic!() };
+//! let edition = Edition::SECOND;
+//! let file = compile(b"console|track console,\n\tam, cols#80, bel@,\n", edition)?;
+//! let entry = Entry::open(&file, edition)?;
+//! let Some(Capability::Number(cols)) = find(b"cols", edition) else { panic!() };
+//! let Some(Capability::String(bel)) = find(b"bel", edition) else { panic!() };
 //! assert_eq!(entry.number(cols)?, State::Present(80));
 //! assert_eq!(entry.string(bel)?, State::Cancelled);
 //! # Ok::<(), chulindafe::Refusal>(())
@@ -30,6 +31,8 @@ pub struct Edition {
 
 impl Edition {
     pub const FIRST: Edition = Edition { booleans: 21, numbers: 8, strings: 138 };
+    /// Knows every capability that has a name.
+    pub const SECOND: Edition = Edition { booleans: 37, numbers: 16, strings: 158 };
 }
 
 /// The state that a capability has in an entry.
@@ -78,7 +81,7 @@ pub enum Capability {
 }
 
 impl Capability {
-    /// The capability's name, if the first edition has one for it.
+    /// The capability's name, if it has one.
     pub fn name(self) -> Option<Vec<u8>> {
         let (kind, place) = match self {
             Capability::Boolean(BooleanPlace(place)) => (0, place),
@@ -90,13 +93,20 @@ impl Capability {
     }
 }
 
-/// The capability of the first edition that a name means.
-pub fn find(name: &[u8]) -> Option<Capability> {
-    let Edition { booleans, numbers, strings } = Edition::FIRST;
-    let booleans = (0..booleans).map(|place| Capability::Boolean(BooleanPlace(place)));
-    let numbers = (0..numbers).map(|place| Capability::Number(NumberPlace(place)));
-    let strings = (0..strings).map(|place| Capability::String(StringPlace(place)));
-    booleans.chain(numbers).chain(strings).find(|found| found.name().as_deref() == Some(name))
+/// The capability that a name means in an edition.
+pub fn find(name: &[u8], edition: Edition) -> Option<Capability> {
+    let Edition { booleans, numbers, strings } = edition;
+    let answer = raw::given(unsafe {
+        raw::terminfo_find(name.as_ptr(), name.len(), booleans, numbers, strings)
+    })
+    .ok()?;
+    let place = raw::value(answer);
+    Some(match raw::kind(answer) {
+        0 => Capability::Boolean(BooleanPlace(place)),
+        1 => Capability::Number(NumberPlace(place)),
+        2 => Capability::String(StringPlace(place)),
+        kind => unreachable!("the library finds no capability of kind {kind}"),
+    })
 }
 
 /// A compiled file that opening accepted, as an edition reads it.
@@ -166,10 +176,20 @@ impl<'a> Entry<'a> {
 
 type Ask = unsafe extern "C" fn(*const u8, usize, usize, usize, usize, usize) -> u64;
 
-/// Compiles a text that holds one description, in the first edition.
-pub fn compile(text: &[u8]) -> Result<Vec<u8>, Refusal> {
+/// Compiles a text that holds one description, in an edition. A name that the edition does not know is
+/// refused (11).
+pub fn compile(text: &[u8], edition: Edition) -> Result<Vec<u8>, Refusal> {
+    let Edition { booleans, numbers, strings } = edition;
     written(|buffer| unsafe {
-        raw::terminfo_compile(text.as_ptr(), text.len(), buffer.as_mut_ptr(), buffer.len())
+        raw::terminfo_compile(
+            text.as_ptr(),
+            text.len(),
+            booleans,
+            numbers,
+            strings,
+            buffer.as_mut_ptr(),
+            buffer.len(),
+        )
     })
 }
 

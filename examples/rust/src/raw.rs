@@ -35,13 +35,17 @@ extern "C" {
         lent: *const u8, lent_length: usize, buffer: *mut u8, buffer_length: usize,
     ) -> u64;
     pub fn terminfo_compile(
-        text: *const u8, text_length: usize, buffer: *mut u8, buffer_length: usize,
+        text: *const u8, text_length: usize, booleans: usize, numbers: usize, strings: usize,
+        buffer: *mut u8, buffer_length: usize,
     ) -> u64;
     pub fn terminfo_merge(
         first: *const u8, first_length: usize, second: *const u8, second_length: usize,
         booleans: usize, numbers: usize, strings: usize, buffer: *mut u8, buffer_length: usize,
     ) -> u64;
     pub fn terminfo_capability(kind: u8, place: usize) -> u64;
+    pub fn terminfo_find(
+        name: *const u8, name_length: usize, booleans: usize, numbers: usize, strings: usize,
+    ) -> u64;
     pub fn terminfo_expand(
         string: *const u8, string_length: usize, arguments: *const [i32; 9],
         lasting: *mut [i32; 26], buffer: *mut u8, buffer_length: usize, at: usize,

@@ -25,7 +25,7 @@ pub enum Refusal {
     Size,
     /// 10: the text is malformed.
     Malformed { at: usize },
-    /// 11: a field's name is unknown, or of another kind.
+    /// 11: a field's name is not in the edition, or of another kind.
     Unknown { at: usize },
     /// 12: a field is `use=`.
     Use { at: usize },
@@ -108,7 +108,9 @@ impl fmt::Display for Refusal {
         let sentence = match self {
             Refusal::Length => "wrong length",
             Refusal::Magic => "the file does not begin with 282",
-            Refusal::Header => "a size in the header is out of range, or states are too few",
+            Refusal::Header => {
+                "a size in the header is out of range, the edition is too large, or states are too few"
+            }
             Refusal::Names => "wrong names",
             Refusal::Boolean => "wrong boolean or pad byte",
             Refusal::Number => "wrong number slot",

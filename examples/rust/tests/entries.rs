@@ -6,21 +6,21 @@ const CONSOLE: &[u8] = include_bytes!("../../console.ti");
 const ONE_WAY: &[u8] = include_bytes!("../../one-way.ti");
 
 fn boolean(name: &str) -> BooleanPlace {
-    match find(name.as_bytes()) {
+    match find(name.as_bytes(), Edition::SECOND) {
         Some(Capability::Boolean(place)) => place,
         other => panic!("{name}: {other:?}"),
     }
 }
 
 fn number(name: &str) -> NumberPlace {
-    match find(name.as_bytes()) {
+    match find(name.as_bytes(), Edition::SECOND) {
         Some(Capability::Number(place)) => place,
         other => panic!("{name}: {other:?}"),
     }
 }
 
 fn string(name: &str) -> StringPlace {
-    match find(name.as_bytes()) {
+    match find(name.as_bytes(), Edition::SECOND) {
         Some(Capability::String(place)) => place,
         other => panic!("{name}: {other:?}"),
     }
@@ -43,15 +43,21 @@ fn names_are_those_of_the_lists() {
     assert_eq!(boolean("xon"), BooleanPlace(20));
     assert_eq!(number("wsl"), NumberPlace(7));
     assert_eq!(string("hu"), StringPlace(137));
+    assert_eq!(boolean("lpix"), BooleanPlace(36));
+    assert_eq!(number("colors"), NumberPlace(13));
+    assert_eq!(string("rmln"), StringPlace(157));
     assert_eq!(Capability::String(StringPlace(10)).name().as_deref(), Some(&b"cup"[..]));
-    assert_eq!(Capability::String(StringPlace(138)).name(), None);
-    assert_eq!(find(b"wrong"), None);
-    assert_eq!(find(b""), None);
+    assert_eq!(Capability::Number(NumberPlace(13)).name().as_deref(), Some(&b"colors"[..]));
+    assert_eq!(Capability::String(StringPlace(158)).name(), None);
+    assert_eq!(find(b"colors", Edition::FIRST), None);
+    assert_eq!(find(b"wrong", Edition::SECOND), None);
+    assert_eq!(find(b"", Edition::SECOND), None);
 }
 
 #[test]
 fn act4_is_compiled_and_read() -> Result<(), Refusal> {
-    let file = compile(ACT4)?;
+    assert_eq!(compile(ACT4, Edition::SECOND)?.len(), 464);
+    let file = compile(ACT4, Edition::FIRST)?;
     assert_eq!(file.len(), 392);
     let entry = Entry::open(&file, Edition::FIRST)?;
     assert_eq!(entry.names(), b"microterm|act4|microterm act iv");
@@ -67,8 +73,30 @@ fn act4_is_compiled_and_read() -> Result<(), Refusal> {
 }
 
 #[test]
+fn each_edition_reads_the_others_files() -> Result<(), Refusal> {
+    let text = b"a|b,\n\tam, colors#8,\n";
+    assert_eq!(compile(text, Edition::FIRST), Err(Refusal::Unknown { at: 10 }));
+    let file = compile(text, Edition::SECOND)?;
+    let entry = Entry::open(&file, Edition::SECOND)?;
+    assert_eq!(entry.number(number("colors"))?, State::Present(8));
+    let entry = Entry::open(&file, Edition::FIRST)?;
+    assert_eq!(entry.beyond(), Edition { booleans: 16, numbers: 8, strings: 20 });
+    assert_eq!(entry.boolean(boolean("am"))?, State::Present(()));
+    assert_eq!(entry.number(number("colors")), Err(Refusal::Place));
+    let file = compile(b"a|b,\n\tam,\n", Edition::FIRST)?;
+    let entry = Entry::open(&file, Edition::SECOND)?;
+    assert_eq!(entry.beyond(), Edition { booleans: 0, numbers: 0, strings: 0 });
+    assert_eq!(entry.boolean(boolean("am"))?, State::Present(()));
+    assert_eq!(entry.number(number("colors"))?, State::Absent);
+    let unnamed = Edition { booleans: 64, numbers: 64, strings: 512 };
+    let file = compile(text, unnamed)?;
+    assert_eq!(Entry::open(&file, unnamed)?.string(StringPlace(511))?, State::Absent);
+    Ok(())
+}
+
+#[test]
 fn a_place_beyond_the_edition_is_refused() -> Result<(), Refusal> {
-    let file = compile(ACT4)?;
+    let file = compile(ACT4, Edition::FIRST)?;
     let edition = Edition { booleans: 2, numbers: 1, strings: 11 };
     let entry = Entry::open(&file, edition)?;
     assert_eq!(entry.beyond(), Edition { booleans: 19, numbers: 7, strings: 127 });
@@ -81,7 +109,7 @@ fn a_place_beyond_the_edition_is_refused() -> Result<(), Refusal> {
 
 #[test]
 fn files_are_refused() -> Result<(), Refusal> {
-    let file = compile(ACT4)?;
+    let file = compile(ACT4, Edition::FIRST)?;
     let opened = |file: &[u8]| Entry::open(file, Edition::FIRST).map(|_| ());
     let with = |place: usize, byte| {
         let mut file = file.clone();
@@ -103,16 +131,20 @@ fn files_are_refused() -> Result<(), Refusal> {
 
 #[test]
 fn texts_are_refused_with_their_place() {
-    assert_eq!(compile(b""), Err(Refusal::Malformed { at: 0 }));
-    assert_eq!(compile(b"a|b,\n\tam, cols#80, wrong,\n"), Err(Refusal::Unknown { at: 19 }));
-    assert_eq!(compile(b"a|b,\n\tuse=c,\n"), Err(Refusal::Use { at: 6 }));
-    assert_eq!(compile(b"a|b,\n\tlm#32768,\n"), Err(Refusal::Limit { at: 6 }));
-    assert_eq!(compile(&[b' '; 16_385]), Err(Refusal::Length));
+    let refused = |text: &[u8]| compile(text, Edition::SECOND).unwrap_err();
+    assert_eq!(refused(b""), Refusal::Malformed { at: 0 });
+    assert_eq!(refused(b"a|b,\n\tam, cols#80, wrong,\n"), Refusal::Unknown { at: 19 });
+    assert_eq!(refused(b"a|b,\n\tuse=c,\n"), Refusal::Use { at: 6 });
+    assert_eq!(refused(b"a|b,\n\tlm#32768,\n"), Refusal::Limit { at: 6 });
+    assert_eq!(refused(&[b' '; 16_385]), Refusal::Length);
+    let large = Edition { strings: 513, ..Edition::SECOND };
+    assert_eq!(compile(&[b' '; 16_385], large), Err(Refusal::Header));
 }
 
 #[test]
 fn a_cancelled_state_stays_cancelled_in_a_merge() -> Result<(), Refusal> {
-    let (first, second) = (compile(ONE_WAY)?, compile(CONSOLE)?);
+    let edition = Edition::SECOND;
+    let (first, second) = (compile(ONE_WAY, edition)?, compile(CONSOLE, edition)?);
     let ri = string("ri");
     let state = |file: &[u8]| -> Result<State<Vec<u8>>, Refusal> {
         Ok(match Entry::open(file, Edition::FIRST)?.string(ri)? {
@@ -122,9 +154,9 @@ fn a_cancelled_state_stays_cancelled_in_a_merge() -> Result<(), Refusal> {
         })
     };
     assert_eq!(state(&second)?, State::Present(b"\x1bM".to_vec()));
-    assert_eq!(state(&merge(&first, &second, Edition::FIRST)?)?, State::Cancelled);
-    assert_eq!(state(&merge(&second, &first, Edition::FIRST)?)?, State::Present(b"\x1bM".to_vec()));
-    assert_eq!(merge(&first, &[], Edition::FIRST), Err(Refusal::Length));
+    assert_eq!(state(&merge(&first, &second, edition)?)?, State::Cancelled);
+    assert_eq!(state(&merge(&second, &first, edition)?)?, State::Present(b"\x1bM".to_vec()));
+    assert_eq!(merge(&first, &[], edition), Err(Refusal::Length));
     Ok(())
 }
 

@@ -22,6 +22,9 @@ enum-known-c c = search needs
 enum-told : tie.Need-enum-told
 enum-told c = search needs
 
+enum-told-2 : tie.Need-enum-told-2
+enum-told-2 c = search needs
+
 enum-known-c-2 : tie.Need-enum-known-c-2
 enum-known-c-2 c = search needs
 
@@ -31,8 +34,8 @@ add-result c =
     (c .before .before .before .before .before .pre) in
     omega arith
 
-enum-told-2 : tie.Need-enum-told-2
-enum-told-2 c = search needs
+enum-told-3 : tie.Need-enum-told-3
+enum-told-3 c = search needs
 
 enum-known-c-3 : tie.Need-enum-known-c-3
 enum-known-c-3 c = search needs
@@ -60,23 +63,32 @@ returns-3 : tie.Need-returns-3
 unfolding numbered
 returns-3 c =
     rw (
-      c .before .before .before .top .ensures,
-      c .before .before .before .before .of-compiled .ensures,
-      c .before .c2 .given .1,
+      c .before .before .top .ensures,
+      c .before .before .before .of-compiled .ensures,
+      c .enum-told2 .given .1,
     )
 
 returns-4 : tie.Need-returns-4
 unfolding numbered
 returns-4 c =
     rw (
-      c .before .before .top .ensures,
-      c .before .before .before .of-compiled .ensures,
-      c .enum-told2 .given .1,
+      c .before .before .before .top .ensures,
+      c .before .before .before .before .of-compiled .ensures,
+      c .before .c2 .given .1,
     )
 
 returns-5 : tie.Need-returns-5
 unfolding numbered
 returns-5 c =
+    rw (
+      c .before .before .top .ensures,
+      c .before .before .before .of-compiled .ensures,
+      c .enum-told3 .given .1,
+    )
+
+returns-6 : tie.Need-returns-6
+unfolding numbered
+returns-6 c =
     rw (
       c .before .before .before .top .ensures,
       c .before .before .before .before .of-compiled .ensures,
@@ -91,13 +103,15 @@ compiled-number-spec =
     top-requires
     enum-known-c
     enum-told
+    enum-told-2
     enum-known-c-2
     add-result
-    enum-told-2
+    enum-told-3
     enum-known-c-3
     add-result-2
     returns
     returns-2
     returns-3
     returns-4
-    returns-5)
+    returns-5
+    returns-6)

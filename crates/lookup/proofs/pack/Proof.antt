@@ -68,6 +68,27 @@ mul-result-4 c = search needs
 add-result-4 : tie.Need-add-result-4
 add-result-4 c = search needs
 
+short-at-requires-7 : tie.Need-short-at-requires-7
+short-at-requires-7 c κs = search needs
+
+short-at-requires-8 : tie.Need-short-at-requires-8
+short-at-requires-8 c κs = search needs
+
+mul-result-5 : tie.Need-mul-result-5
+mul-result-5 c = search needs
+
+add-result-5 : tie.Need-add-result-5
+add-result-5 c = search needs
+
+short-at-requires-9 : tie.Need-short-at-requires-9
+short-at-requires-9 c κs = search needs
+
+mul-result-6 : tie.Need-mul-result-6
+mul-result-6 c = search needs
+
+add-result-6 : tie.Need-add-result-6
+add-result-6 c = search needs
+
 returns-3 : tie.Need-returns-3
 unfolding word
 returns-3 c =
@@ -97,9 +118,16 @@ returns-6 c =
     omega arith
 
 returns-7 : tie.Need-returns-7
+unfolding word
 returns-7 c =
+    let m = c .before .before .before in
+    let s = sought-bytes (now (m .before .before .before .before .before .args .name)) 6 (m .match .keys5) (lit≤ tt) (lit≤ tt) (m .before .if2 .left) in
+    omega arith
+
+returns-8 : tie.Need-returns-8
+returns-8 c =
     let r = c .match .rest in
-    sought-other (now (c .before .before .before .before .before .args .name)) (c .before .before .before .if1 .left) (r .0 .0 .0 .1) (r .0 .0 .1) (r .0 .1) (r .1)
+    sought-other (now (c .before .before .before .before .before .args .name)) (c .before .before .before .if1 .left) (r .0 .0 .0 .0 .1) (r .0 .0 .0 .1) (r .0 .0 .1) (r .0 .1) (r .1)
 
 pub pack-spec : {M : Type 1} → statement M
 pack-spec =
@@ -125,8 +153,16 @@ pack-spec =
     byte-at-requires-2
     mul-result-4
     add-result-4
+    short-at-requires-7
+    short-at-requires-8
+    mul-result-5
+    add-result-5
+    short-at-requires-9
+    mul-result-6
+    add-result-6
     returns-3
     returns-4
     returns-5
     returns-6
-    returns-7)
+    returns-7
+    returns-8)

@@ -4,6 +4,7 @@ use mathlib.Core.Path.{sym, ap, _∙_}
 use native.Mathlib.Omega.{arith}
 use denote.Ref.{now}
 use Rattle.entry.specs.Says.{saysOpened}
+use Rattle.names.specs.Names.{ascii}
 use Rattle.shown.proofs.PutsLaws.{puts-first}
 use Rattle.show_lines.specs.Lines.{beyondLine}
 use Rattle.show_lines.proofs.Laws.{holds-none}
@@ -13,6 +14,9 @@ use Rattle.show_lines.proofs.beyond_line.Tie as tie
 
 enum-known-opened : tie.Need-enum-known-opened
 enum-known-opened c = search needs
+
+slice-aggregate-put-counts : tie.Need-slice-aggregate-put-counts
+slice-aggregate-put-counts c = search needs
 
 put-counts-requires : tie.Need-put-counts-requires
 put-counts-requires c κs = search needs
@@ -24,8 +28,8 @@ same-length : tie.Need-same-length
 same-length c = search needs
 
 returns : tie.Need-returns
-unfolding beyondLine
-returns c = rw (← (ap saysOpened (sym (c .before .before .before .before .before .opened .given .1)) ∙ c .before .before .before .before .before .before .before .before .before .pre .1)) (puts-first (c .before .before .put-counts .ensures) (omega (arith, c .before .before .before .before .before .before .before .before .before .pre .0)))
+unfolding beyondLine ascii
+returns c = rw (← (ap saysOpened (sym (c .before .before .before .before .before .before .opened .given .1)) ∙ c .before .before .before .before .before .before .before .before .before .before .pre .1)) (puts-first (c .before .before .put-counts .ensures) (omega (arith, c .before .before .before .before .before .before .before .before .before .before .pre .0)))
 
 returns-2 : tie.Need-returns-2
 unfolding beyondLine
@@ -36,6 +40,7 @@ beyond-line-spec =
     tie.close
     (tie.spec
     enum-known-opened
+    slice-aggregate-put-counts
     put-counts-requires
     enum-told
     same-length

@@ -12,7 +12,7 @@ use Rattle.show_lines.proofs.boolean_line.Statement.{statement}
 use Rattle.show_lines.proofs.boolean_line.Tie as tie
 
 boolean-if-opened-requires : tie.Need-boolean-if-opened-requires
-boolean-if-opened-requires c κs = search needs
+boolean-if-opened-requires c κs = c .before .before .pre .1
 
 enum-told : tie.Need-enum-told
 enum-told c = search needs

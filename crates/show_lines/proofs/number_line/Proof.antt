@@ -12,7 +12,7 @@ use Rattle.show_lines.proofs.number_line.Statement.{statement}
 use Rattle.show_lines.proofs.number_line.Tie as tie
 
 number-if-opened-requires : tie.Need-number-if-opened-requires
-number-if-opened-requires c κs = search needs
+number-if-opened-requires c κs = c .before .before .pre .1
 
 enum-known-n : tie.Need-enum-known-n
 enum-known-n c = search needs

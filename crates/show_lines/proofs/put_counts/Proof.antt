@@ -1,17 +1,15 @@
--- `show_lines::put_counts` meets its contract: a text, and three numbers each with a text behind it.
+-- `show_lines::put_counts` meets its contract: words, and three numbers each with a text behind it.
 -- Assumes nothing.
 use mathlib.Core.List.{_++_}
 use native.Mathlib.Omega.{arith}
 use Rattle.names.specs.Names.{ascii}
 use Rattle.shown.proofs.PutsLaws.{puts-most}
-use Rattle.show_lines.specs.Lines.{decimal, lineEnd, countsLine}
+use Rattle.show_names.specs.Naming.{decimal}
+use Rattle.show_lines.specs.Lines.{lineEnd, countsLine}
 use Rattle.show_lines.proofs.Laws.{counts-puts}
 use borrow.Author.Needs.{needs}
 use Rattle.show_lines.proofs.put_counts.Statement.{statement}
 use Rattle.show_lines.proofs.put_counts.Tie as tie
-
-slice-aggregate-put-text : tie.Need-slice-aggregate-put-text
-slice-aggregate-put-text c = search needs
 
 put-text-requires : tie.Need-put-text-requires
 put-text-requires c κs = search needs
@@ -40,14 +38,13 @@ same-length c = search needs
 returns : tie.Need-returns
 unfolding countsLine ascii
 returns c =
-    let b = c .before .before .before .before .before .before .before .before .before .before .before .before .before .before .before .before .before .before .before .before .before .args .beyond in
-    puts-most (counts-puts (decimal (b .booleans)) (ascii " booleans, ") (decimal (b .numbers)) (ascii " numbers, ") (decimal (b .strings)) (ascii " strings" ++ lineEnd) (c .before .before .before .before .before .before .before .before .before .before .before .before .before .before .before .before .before .put-text .ensures) (c .before .before .before .before .before .before .before .before .before .before .before .before .put-number .ensures) (c .before .before .before .before .before .before .before .put-number2 .ensures) (c .before .before .put-number3 .ensures) (omega (arith, c .before .before .before .before .before .before .before .before .before .before .before .before .before .before .before .before .before .before .before .before .before .pre))) (omega arith)
+    let a = c .before .before .before .before .before .before .before .before .before .before .before .before .before .before .before .before .before .before .before .before .before .args in
+    puts-most (counts-puts (decimal (a .booleans)) (ascii " booleans, ") (decimal (a .numbers)) (ascii " numbers, ") (decimal (a .strings)) (ascii " strings" ++ lineEnd) (c .before .before .before .before .before .before .before .before .before .before .before .before .before .before .before .before .before .put-text .ensures) (c .before .before .before .before .before .before .before .before .before .before .before .before .put-number .ensures) (c .before .before .before .before .before .before .before .put-number2 .ensures) (c .before .before .put-number3 .ensures) (omega (arith, c .before .before .before .before .before .before .before .before .before .before .before .before .before .before .before .before .before .before .before .before .before .pre))) (omega arith)
 
 pub put-counts-spec : {M : Type 1} → statement M
 put-counts-spec =
     tie.close
     (tie.spec
-    slice-aggregate-put-text
     put-text-requires
     slice-aggregate-put-number
     put-number-requires

@@ -13,7 +13,7 @@ use Rattle.show_lines.proofs.string_line.Statement.{statement}
 use Rattle.show_lines.proofs.string_line.Tie as tie
 
 string-if-opened-requires : tie.Need-string-if-opened-requires
-string-if-opened-requires c κs = search needs
+string-if-opened-requires c κs = c .before .before .pre .1
 
 enum-known-p : tie.Need-enum-known-p
 enum-known-p c = search needs

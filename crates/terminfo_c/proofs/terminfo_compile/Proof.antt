@@ -4,7 +4,6 @@ use mathlib.Core.Path.{sym, ap, _∙_, subst}
 use denote.Ref.{now}
 use lib.ListN.{length}
 use borrow.Author.Needs.{needs}
-use Rattle.names.specs.Names.{firstEdition}
 use Rattle.text_laws.specs.Values.{Bounded, compiling-bounded}
 use Rattle.c_numbers.specs.Numbers.{numbered}
 use Rattle.terminfo_c.proofs.Laws.{numbered-length}
@@ -17,7 +16,7 @@ compile-requires c κs = search needs
 compiled-number-requires : tie.Need-compiled-number-requires
 compiled-number-requires c κs =
     let a = c .before .before .before .before .before .before .args in
-    subst Bounded (sym (c .before .before .compile .ensures .0)) (compiling-bounded firstEdition (now (a .text)) (length (now (a .buffer))))
+    subst Bounded (sym (c .before .before .compile .ensures .0)) (compiling-bounded _ (now (a .text)) (length (now (a .buffer))))
 
 same-length : tie.Need-same-length
 same-length c = search needs

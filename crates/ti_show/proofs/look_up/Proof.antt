@@ -8,10 +8,10 @@ use Rattle.os.proofs.arg_count.Reads as arg-count-reads
 use Rattle.ti_show.proofs.look_up_at.Reads as look-up-at-reads
 
 abbrev Inv-loop : tie.InvT-loop
-Inv-loop path first end k₀ k = Unit {0}
+Inv-loop path edition first end k₀ k = Unit {0}
 
 abbrev μ-loop : tie.MeasureT-loop
-μ-loop path first end k₀ k = end - k
+μ-loop path edition first end k₀ k = end - k
 
 arg-count-requires : tie.Need-arg-count-requires Inv-loop μ-loop
 arg-count-requires c κs = search needs

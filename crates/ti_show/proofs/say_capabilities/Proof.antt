@@ -6,10 +6,13 @@ use Rattle.ti_show.proofs.say_capabilities.Statement.{statement}
 use Rattle.ti_show.proofs.say_capabilities.Tie as tie
 
 abbrev Inv-loop : tie.InvT-loop
-Inv-loop file opened is-written₀ k₀ is-written k = k ≤ 167
+Inv-loop file edition opened end is-written₀ k₀ is-written k = k ≤ end
 
 abbrev μ-loop : tie.MeasureT-loop
-μ-loop file opened is-written₀ k₀ is-written k = 167 - k
+μ-loop file edition opened end is-written₀ k₀ is-written k = end - k
+
+count-requires : tie.Need-count-requires Inv-loop μ-loop
+count-requires c κs = search needs
 
 loop-holds : tie.Need-loop-holds Inv-loop μ-loop
 loop-holds c = search needs
@@ -35,6 +38,7 @@ say-capabilities-spec =
     (tie.spec
     Inv-loop
     μ-loop
+    count-requires
     loop-holds
     say-capability-requires
     add-k

@@ -8,10 +8,10 @@ use Rattle.os.proofs.arg_count.Reads as arg-count-reads
 use Rattle.ti_show.proofs.say_word.Reads as say-word-reads
 
 abbrev Inv-loop : tie.InvT-loop
-Inv-loop file opened first end is-written₀ k₀ is-written k = Unit {0}
+Inv-loop file edition opened first end is-written₀ k₀ is-written k = Unit {0}
 
 abbrev μ-loop : tie.MeasureT-loop
-μ-loop file opened first end is-written₀ k₀ is-written k = end - k
+μ-loop file edition opened first end is-written₀ k₀ is-written k = end - k
 
 arg-count-requires : tie.Need-arg-count-requires Inv-loop μ-loop
 arg-count-requires c κs = search needs

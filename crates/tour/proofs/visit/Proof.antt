@@ -111,7 +111,8 @@ use Rattle.tour.proofs.say_missing as say-missing
 use Rattle.tour.proofs.say_missing.Symbol as say-missing-def
 use Rattle.tour.proofs.say_missing.Symbol.{name as #say-missing}
 use Rattle.tour.proofs.say_missing.Met as say-missing-thm
-use Rattle.tour.proofs.Literals.{first, is-first, lines, is-lines, cup, is-cup, arguments, is-arguments}
+use Rattle.names.specs.Names.{secondEdition}
+use Rattle.tour.proofs.Literals.{is-second, lines, is-lines, cup, is-cup, arguments, is-arguments}
 use Rattle.tour.proofs.visit.Key.{name as #called}
 use Rattle.tour.proofs.visit as f
 use Rattle.tour.proofs.visit.Statement as stated
@@ -168,7 +169,7 @@ module _ {M : Type 1} (𝓤 : URA M) (H : Heap 𝓤) (A : Atoms 𝓤) (W : Given
   at = (sv ∷ [], (yv ∷ [], tt))
 
   abbrev ev : Val
-  ev = E′.lowered first
+  ev = E′.lowered secondEdition
 
   abbrev av : Val
   av = only (array-vals (sint-vals w32) arguments)
@@ -238,11 +239,11 @@ module _ {M : Type 1} (𝓤 : URA M) (H : Heap 𝓤) (A : Atoms 𝓤) (W : Given
 
   -- the calls: what each is passed, and what it asks
   abbrev to-open : Open 𝓤 H A at-mem run .Ghost
-  to-open = (((κ, tt), (q, tt), tt, (s, (first, tt)), (sv ∷ [], (ev ∷ [], tt))), tt)
+  to-open = (((κ, tt), (q, tt), tt, (s, (secondEdition, tt)), (sv ∷ [], (ev ∷ [], tt))), tt)
 
   goes-open : ent 𝓤 (⋆ 𝓤 H A (‵ (F .own s (sv ∷ [])) ∷ ‵ (flft κ q) ∷ [])) (Open 𝓤 H A at-mem run .pre to-open)
   goes-open =
-      qed W (‵ (F .own s (sv ∷ [])) ∷ ‵ (flft κ q) ∷ []) ∵ nothing ! $ move ! (2 ∷ 0 ∷ []) $ join ! $ nothing ! $ owned ! E.the-row (Is E.the-row) (LL.makes E.the-type E′.the-plain 𝓤 H A) first _ is-first $ fjoin ! $
+      qed W (‵ (F .own s (sv ∷ [])) ∷ ‵ (flft κ q) ∷ []) ∵ nothing ! $ move ! (2 ∷ 0 ∷ []) $ join ! $ nothing ! $ owned ! E.the-row (Is E.the-row) (LL.makes E.the-type E′.the-plain 𝓤 H A) secondEdition _ is-second $ fjoin ! $
       move ! (2 ∷ 0 ∷ []) $ fjoin ! $ move ! (1 ∷ 0 ∷ []) $ join ! $ frame ! $ done !
 
   abbrev to-names : Entry → Val → Names 𝓤 H A at-mem run .Ghost
@@ -331,10 +332,10 @@ module _ {M : Type 1} (𝓤 : URA M) (H : Heap 𝓤) (A : Atoms 𝓤) (W : Given
         alloc1 ! (λ l₀. alloc1 ! (λ l₁. alloc1 ! (λ l₂. alloc1 ! (λ l₃. alloc1 ! (λ l₄. alloc1 ! (λ l₅. alloc1 ! (λ l₆. alloc1 ! (λ l₇. alloc1 ! (λ l₈. alloc1 ! (λ l₉. alloc1 ! (λ l₁₀. alloc1 ! (λ l₁₁. alloc1 ! (λ l₁₂. alloc1 ! (λ l₁₃. alloc1 ! (λ l₁₄. alloc1 ! (λ l₁₅. alloc1 ! (λ l₁₆. alloc1 ! (λ l₁₇. alloc1 ! (λ l₁₈. alloc1 ! (λ l₁₉. alloc1 ! (λ l₂₀. alloc1 ! (λ l₂₁. alloc0 ! $ params1 ! $
         pass1 ! (init ! 40 refl (shr-slice-lawful 𝓤 H A W (named 0) κ u8 .typed s _ iss .0)) $ pass1 ! (init ! 38 refl (mut-slice-lawful 𝓤 H A W (named 1) κ₂ u8 .typed y _ isy .0)) $ pass0 ! $
         -- the file is opened
-        assigns ! (agg ! (and-then ! (lit ! tt) (and-then ! (lit ! tt) (and-then ! (lit ! tt) (no-more !))))) (from ! (stop !)) (init ! 28 refl (LL.lawful E.the-type E′.the-laws 𝓤 H A W .typed first _ is-first .0)) $
+        assigns ! (agg ! (and-then ! (lit ! tt) (and-then ! (lit ! tt) (and-then ! (lit ! tt) (no-more !))))) (from ! (stop !)) (init ! 28 refl (LL.lawful E.the-type E′.the-laws 𝓤 H A W .typed secondEdition _ is-second .0)) $
         move ! (45 ∷ 47 ∷ []) $ use2 W (raw (Open 𝓤 H A at-mem run .pre to-open)) goes-open $
         calls-at ! fm (Open 𝓤 H A at-mem run) known-opening to-open (and-then ! (load ! (from ! (stop !)) (look ! 41 refl)) (and-then ! (load ! (from ! (stop !)) (look ! 29 refl)) (no-more !))) (λ u.
-        use1 W (later (some (λ (r : Entry). ((‵ (flft κ q) ⊛ ‵ ftrue) ⊛ ‵ (Own r u)) ⊛ raw (ensured 𝓤 H A opening.ended (opening.clauses 𝓤 H A at-mem run) (κ, tt) (s, (first, tt)) tt r)))) (id⊢ 𝓤 _) $ await ! tt $ pick ! (λ r. split ! $ move ! (1 ∷ []) $ drop ! $ split ! $ move ! (1 ∷ []) $
+        use1 W (later (some (λ (r : Entry). ((‵ (flft κ q) ⊛ ‵ ftrue) ⊛ ‵ (Own r u)) ⊛ raw (ensured 𝓤 H A opening.ended (opening.clauses 𝓤 H A at-mem run) (κ, tt) (s, (secondEdition, tt)) tt r)))) (id⊢ 𝓤 _) $ await ! tt $ pick ! (λ r. split ! $ move ! (1 ∷ []) $ drop ! $ split ! $ move ! (1 ∷ []) $
         -- [what the entry owns; the token of κ; the locals, last first; what out owns; the token of κ₂]
         peeks ! B (Is B) (shows 𝓤 H A B) r (u ∷ []) (λ is.
         land ! (from ! (stop !)) (init ! 38 refl (LL.lawful (T.the-type αᵉ) (T′.the-laws αᵉ) 𝓤 H A W .typed r _ is .0)) $

@@ -1,0 +1,1 @@
+// What a text gives in one edition and in a larger one. No code: see specs/.
