@@ -2,9 +2,10 @@
  *
  *     bench COLUMN ROW COUNT FILE.. [ARGUMENT..]
  *
- * COLUMN is ours, ncurses or unibilium; ROW is expand, open, list, compile (in the second edition;
- * compile1 in the first, compile-all of every text in the file), merge (merge512 in an edition of 512
- * strings) or write. The other rows are of the first edition. COUNT is how often the row is run; with
+ * COLUMN is ours, ncurses or unibilium; ROW is expand, open, list, compile (the text's first
+ * description in the second edition; compile1 in the first, compile-named by its first name,
+ * compile-all of every text in the file), merge (merge512 in an edition of 512 strings) or write. The
+ * other rows are of the first edition. COUNT is how often the row is run; with
  * COUNT 0 the program prints nanoseconds of processor time per run, the least of several tries. Buffers
  * and variables are not cleared between runs.
  *
@@ -92,18 +93,28 @@ static void list_ours(void) {
     kept = booleans[AM_PLACE] + values[COLS_PLACE] + starts[CUP_PLACE];
 }
 
-static void compile_first(void) {
-    kept = terminfo_compile(files[0], lengths[0], TERMINFO_FIRST_EDITION, output, sizeof output);
+static void compile_in_first(void) {
+    kept = terminfo_compile_first(files[0], lengths[0], TERMINFO_FIRST_EDITION, output,
+                                  sizeof output);
 }
 
-static void compile_second(void) {
-    kept = terminfo_compile(files[0], lengths[0], TERMINFO_SECOND_EDITION, output, sizeof output);
+static void compile_in_second(void) {
+    kept = terminfo_compile_first(files[0], lengths[0], TERMINFO_SECOND_EDITION, output,
+                                  sizeof output);
+}
+
+/* By the name before the first bar, which the text begins with. */
+static void compile_named(void) {
+    const uint8_t *bar = memchr(files[0], '|', lengths[0]);
+    if (!bar) fail("the text has no names");
+    kept = terminfo_compile(files[0], lengths[0], files[0], (size_t)(bar - files[0]),
+                            TERMINFO_SECOND_EDITION, output, sizeof output);
 }
 
 static void compile_all(void) {
     for (size_t i = 0; i < string_count; i++) {
-        kept = terminfo_compile((const uint8_t *)strings[i], string_lengths[i],
-                                TERMINFO_SECOND_EDITION, output, sizeof output);
+        kept = terminfo_compile_first((const uint8_t *)strings[i], string_lengths[i],
+                                      TERMINFO_SECOND_EDITION, output, sizeof output);
         if (terminfo_refusal(kept)) fail("a text is refused");
     }
 }
@@ -243,8 +254,9 @@ static const Row rows[] = {
     {"ours", "expand", expand_ours},
     {"ours", "open", open_ours},
     {"ours", "list", list_ours},
-    {"ours", "compile", compile_second},
-    {"ours", "compile1", compile_first},
+    {"ours", "compile", compile_in_second},
+    {"ours", "compile1", compile_in_first},
+    {"ours", "compile-named", compile_named},
     {"ours", "compile-all", compile_all},
     {"ours", "merge", merge_ours},
     {"ours", "merge512", merge_512_strings},

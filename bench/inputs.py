@@ -14,6 +14,7 @@ sys.path.insert(0, str(Path(__file__).resolve().parent.parent / "tests"))
 import expand_model  # noqa: E402
 import model  # noqa: E402
 import text_model  # noqa: E402
+import use_texts  # noqa: E402
 
 ENVIRONMENT = {"PATH": os.environ["PATH"], "LC_ALL": "C"}
 MERGED_SIZE = 1100
@@ -161,6 +162,8 @@ def put_rows(folder):
         (folder / f"comments-{kib}").write_bytes(fill(b"bench|comments,\n", b"#\n", size))
     for size in (1024, 2048, 4096):
         (folder / f"shared-{size}").write_bytes(shared(size))
+    for name, text in use_texts.TEXTS.items():
+        (folder / f"uses-{name}").write_bytes(text)
 
 
 def main(folder):

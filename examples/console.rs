@@ -4,7 +4,7 @@ extern "C" {
     fn terminfo_boolean(file: *const u8, length: usize, booleans: usize, numbers: usize, strings: usize, place: usize) -> u64;
     fn terminfo_number(file: *const u8, length: usize, booleans: usize, numbers: usize, strings: usize, place: usize) -> u64;
     fn terminfo_string(file: *const u8, length: usize, booleans: usize, numbers: usize, strings: usize, place: usize) -> u64;
-    fn terminfo_compile(text: *const u8, length: usize, booleans: usize, numbers: usize, strings: usize, buffer: *mut u8,
+    fn terminfo_compile_first(text: *const u8, length: usize, booleans: usize, numbers: usize, strings: usize, buffer: *mut u8,
         buffer_length: usize) -> u64;
 }
 
@@ -47,7 +47,8 @@ impl<'a> Entry<'a> {
 fn main() -> Result<(), u64> {
     let text = b"console|track console of 24 x 80,\n\tam, cols#80, colors#8, cup=\\E[%i%p1%d;%p2%dH,\n";
     let mut file = [0; 4096];
-    let compiled = unsafe { terminfo_compile(text.as_ptr(), text.len(), BOOLEANS, NUMBERS, STRINGS, file.as_mut_ptr(), file.len()) };
+    let (buffer, room) = (file.as_mut_ptr(), file.len());
+    let compiled = unsafe { terminfo_compile_first(text.as_ptr(), text.len(), BOOLEANS, NUMBERS, STRINGS, buffer, room) };
     if compiled >> 56 != 0 { return Err(compiled >> 56); }
     let entry = Entry::open(&file[..compiled as usize])?;
     let shown = [("am", Kind::Boolean, AM), ("cols", Kind::Number, COLS), ("colors", Kind::Number, COLORS), ("cup", Kind::String, CUP)];

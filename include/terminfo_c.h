@@ -28,20 +28,27 @@
  *         of an expansion; bits 0 to 47 give the length of the file or output; or an array is too
  *         short for the edition's states, and bits 0 to 47 give their count
  *     9   the file to be written is longer than 4,096 bytes
- *     10  the text is malformed; for 10 to 13 bits 0 to 47 give the first byte of the field, 0 for
- *         the header, and its own for a second line that starts in column 1
+ *     10  the text is malformed; for 10, 11 and 13 bits 0 to 47 give the first byte of the field, 0
+ *         for the text's first header and where it has none, and its own for a later line that starts
+ *         in column 1
  *     11  the edition does not know the name, or a field's name is of another kind
- *     12  a field is use=
  *     13  an alias of the text is longer than 14 bytes, a number above 32,767 or of more than 99
- *         digits, a string longer than 1,000 bytes, or all names together longer than 127; or the
- *         writer is given a state of no kind, a number above 32,767, or a string that is longer
- *         than 1,000 bytes or holds a NUL, and then bits 0 to 47 are 0
+ *         digits, a string longer than 1,000 bytes, all names of a header together longer than 127,
+ *         or the text has a 65th header; or the writer is given a state of no kind, a number above
+ *         32,767, or a string that is longer than 1,000 bytes or holds a NUL, and then bits 0 to 47
+ *         are 0
  *     14  the string to be expanded is malformed; bits 0 to 47 give the place of the first wrong
  *         item, or the string's length where a conditional is not closed
  *     15  an item finds too few values on the stack; bits 0 to 47 give the item's place
  *     16  an item finds no room on the stack of 20 values; bits 0 to 47 give the item's place
  *     17  the place is beyond the edition, the list or the buffer's length, there is no such kind
  *         of capability, or opening refuses the file
+ *     18  no description of the text has the name; for 18 to 20 bits 0 to 47 give the first byte of
+ *         the use= field, 0 for the wanted name
+ *     19  a chain of uses comes back to a description that is being worked on
+ *     20  the ninth use of a chain
+ *
+ * 12, once the number for use=, is given no more.
  *
  * A refused call changes nothing that was lent to it.
  *
@@ -85,12 +92,14 @@ enum {
     TERMINFO_REFUSED_SIZE = 9,
     TERMINFO_REFUSED_MALFORMED_TEXT = 10,
     TERMINFO_REFUSED_UNKNOWN = 11,
-    TERMINFO_REFUSED_USE = 12,
     TERMINFO_REFUSED_LIMIT = 13,
     TERMINFO_REFUSED_MALFORMED_STRING = 14,
     TERMINFO_REFUSED_STACK_EMPTY = 15,
     TERMINFO_REFUSED_STACK_FULL = 16,
-    TERMINFO_REFUSED_PLACE = 17
+    TERMINFO_REFUSED_PLACE = 17,
+    TERMINFO_REFUSED_NOT_FOUND = 18,
+    TERMINFO_REFUSED_CIRCULAR = 19,
+    TERMINFO_REFUSED_NINTH_USE = 20
 };
 
 /* The number of the refusal in an answer; 0 for success. */
@@ -102,10 +111,11 @@ static inline unsigned terminfo_refusal(uint64_t answer) { return (unsigned)(ans
 static inline unsigned terminfo_kind(uint64_t answer) { return (unsigned)(answer >> 48) & 255u; }
 
 /* Bits 0 to 47: the number's value in the answer of terminfo_number or terminfo_state, the place in
- * that of terminfo_find, the file's length in that of terminfo_write, terminfo_merge or
- * terminfo_compile (success, or refusal 8), the count in that of terminfo_list (refusal 8), the
- * field's first byte in that of terminfo_compile (refusals 10 to 13), or what a refusal of
- * terminfo_expand gives: the output's length (8) or an item's place (14, 15, 16). */
+ * that of terminfo_find, the file's length in that of terminfo_write, terminfo_merge,
+ * terminfo_compile or terminfo_compile_first (success, or refusal 8), the count in that of
+ * terminfo_list (refusal 8), the field's first byte in that of terminfo_compile or
+ * terminfo_compile_first (refusals 10, 11, 13 and 18 to 20), or what a refusal of terminfo_expand
+ * gives: the output's length (8) or an item's place (14, 15, 16). */
 static inline uint64_t terminfo_value(uint64_t answer) { return answer & 0xFFFFFFFFFFFFu; }
 
 /* Where the part of the file starts that terminfo_names, terminfo_string or terminfo_state gives. */
@@ -263,20 +273,22 @@ uint64_t terminfo_write(size_t booleans, size_t numbers, size_t strings,
                         const uint8_t *lent, size_t lent_length,
                         uint8_t *buffer, size_t buffer_length);
 
-/* Compiles source text that holds one description and writes the file, which has exactly the
- * edition's slots, from the buffer's first byte on.
+/* Compiles the description of a source text that has a name, and writes the file, which has exactly
+ * the edition's slots, from the buffer's first byte on.
  *
  * text, text_length           the bytes of the text.
+ * wanted, wanted_length       the name of the description, any but its last. It may lie in the text.
  * booleans, numbers, strings  the edition of the file. The names that fields may have are those of
  *                             its places; a place that has no name is absent in the file.
  * buffer                      takes the file; its bytes past the file stay.
  *
  * Lines end in byte 10, white space is space and tab. Blank lines and lines whose first nonblank is
- * # are skipped before the header and where a field may begin. The header starts in column 1: at
- * least two names parted by |, a comma, then only white space to the line's end. The last name has
- * 1 or more bytes of codes 32 to 126 other than comma and |; each name before it 1 to 14 of codes 33
- * to 126 other than comma, slash and |. Fields follow, indented on each new line, each with a comma
- * behind it; the name of a field has 1 or more bytes of codes 33 to 126 other than , = # @:
+ * # are skipped before a header and where a field may begin. A text holds 1 to 64 descriptions, each
+ * a header and its fields. A header starts in column 1: at least two names parted by |, a comma,
+ * then only white space to the line's end. The last name has 1 or more bytes of codes 32 to 126
+ * other than comma and |; each name before it 1 to 14 of codes 33 to 126 other than comma, slash and
+ * |. Fields follow, indented on each new line, each with a comma behind it; the name of a field has
+ * 1 or more bytes of codes 33 to 126 other than , = # @:
  *
  *     am,                       a boolean;
  *     cols#80,                  a number: decimal, octal with a leading 0, or hex with 0x or 0X, of
@@ -288,19 +300,37 @@ uint64_t terminfo_write(size_t booleans, size_t numbers, size_t strings,
  *                               stored as 128. A line end and the white space after it, of which
  *                               there must be some, are left out;
  *     bel@,                     a cancelled capability of any kind;
+ *     use=console,              what another description of the text comes to, wherever it stands
+ *                               there; the string, escapes taken, is a name of it, any but the last;
  *     .bel=^G,                  a field that is dropped: its form must be right, its name and its
  *                               limits are not judged.
  *
- * The first field for a capability stands; later ones are checked and ignored.
+ * The first field for a capability stands; later ones are checked and ignored. A description's own
+ * fields override what its uses bring, wherever they stand; of several uses the leftmost wins. A use
+ * brings what the used description comes to by its own fields and uses. A cancelled state is a state
+ * as any other: where it wins, nothing else brings the capability back, and it is cancelled in the
+ * file. Of two descriptions with one name the earlier counts. A chain has at most eight uses.
  *
  * Success gives the file's length (terminfo_value). Refusals, the first that applies: 3 (edition);
- * 1; then of the header and the fields in turn 10, 12, 11, 13, with the place of the first byte of
- * the field, 0 for the header (terminfo_value); 13 for all names together, with 0; 9; 8 (gives the
- * file's length: terminfo_value).
+ * 1; then the first bad header or field of the whole text, by 10, 11, 13, with the first byte of the
+ * field or of a later header, 0 for the first header (terminfo_value), where a 65th header is 13; 13 for
+ * all names of a header together, the earliest first, with the same place; 18 for the wanted name,
+ * with 0; then along the uses of the wanted description, from left to right and each followed down
+ * before the next, 18, 19, 20, with the first byte of the use= field; 9; 8 (gives the file's length:
+ * terminfo_value). Descriptions that the wanted one does not lead to give no 18 to 20; 9 and 8 are
+ * judged on the file alone.
  *
- * Uses at most 9,568 bytes of stack. */
-uint64_t terminfo_compile(const uint8_t *text, size_t text_length, size_t booleans,
-                          size_t numbers, size_t strings, uint8_t *buffer, size_t buffer_length);
+ * Uses at most 22,224 bytes of stack. */
+uint64_t terminfo_compile(const uint8_t *text, size_t text_length, const uint8_t *wanted,
+                          size_t wanted_length, size_t booleans, size_t numbers, size_t strings,
+                          uint8_t *buffer, size_t buffer_length);
+
+/* Compiles the first description of a source text, as terminfo_compile does by its name.
+ *
+ * Uses at most 22,192 bytes of stack. */
+uint64_t terminfo_compile_first(const uint8_t *text, size_t text_length, size_t booleans,
+                                size_t numbers, size_t strings, uint8_t *buffer,
+                                size_t buffer_length);
 
 /* Merges a first file over a second one and writes the result, from the buffer's first byte on.
  *

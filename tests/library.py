@@ -35,7 +35,9 @@ REFUSALS = {
 }
 
 SIZE, POINTER = ctypes.c_size_t, ctypes.c_void_p
-FILE_AND_EDITION = TEXT_AND_EDITION = [POINTER, SIZE, SIZE, SIZE, SIZE]
+ARRAY = [POINTER, SIZE]
+EDITION = [SIZE, SIZE, SIZE]
+FILE_AND_EDITION = ARRAY + EDITION
 ARGUMENTS = {
     "open": FILE_AND_EDITION + [POINTER],
     "names": FILE_AND_EDITION,
@@ -43,13 +45,14 @@ ARGUMENTS = {
     "number": FILE_AND_EDITION + [SIZE],
     "string": FILE_AND_EDITION + [SIZE],
     "ask": FILE_AND_EDITION + [POINTER, POINTER, POINTER],
-    "list": FILE_AND_EDITION + 6 * [POINTER, SIZE],
-    "write": [SIZE, SIZE, SIZE] + 9 * [POINTER, SIZE],
-    "merge": [POINTER, SIZE] + FILE_AND_EDITION + [POINTER, SIZE],
+    "list": FILE_AND_EDITION + 6 * ARRAY,
+    "write": EDITION + 9 * ARRAY,
+    "merge": ARRAY + FILE_AND_EDITION + ARRAY,
     "capability": [ctypes.c_uint8, SIZE],
-    "compile": TEXT_AND_EDITION + [POINTER, SIZE],
-    "find": [POINTER, SIZE, SIZE, SIZE, SIZE],
-    "state": FILE_AND_EDITION + [POINTER, SIZE],
+    "compile": ARRAY + ARRAY + EDITION + ARRAY,
+    "compile_first": ARRAY + EDITION + ARRAY,
+    "find": ARRAY + EDITION,
+    "state": FILE_AND_EDITION + ARRAY,
 }
 
 
@@ -359,16 +362,31 @@ def model_merge(first, second, edition, room):
 TEXT = Lent(capacity=1 << 16)
 
 
-def compile_text(text, room, edition):
-    """The library's answer and the file that it wrote (None if refused)."""
+def compile_text(text, room, edition, wanted=None):
+    """The library's answer for the description that has a name, and the file (None if refused).
+
+    Without a name it is the text's first description. A name that is a slice is that part of the
+    memory that is lent for the text.
+    """
     TEXT.put(text)
-    found = written("compile", [TEXT.address, TEXT.length, *edition], room)
+    lent = [TEXT.address, TEXT.length]
+    if wanted is None:
+        found = written("compile_first", [*lent, *edition], room)
+    elif isinstance(wanted, slice):
+        lent += [TEXT.address + wanted.start, wanted.stop - wanted.start]
+        found = written("compile", [*lent, *edition], room)
+    else:
+        NAME.put(wanted)
+        found = written("compile", [*lent, NAME.address, NAME.length, *edition], room)
+        require(NAME.kept(), "the wanted name")
     require(TEXT.kept(), "the text to compile")
     return found
 
 
-def model_compile(text, room, edition):
-    number, values, file = text_model.compile(text, room, edition)
+def model_compile(text, room, edition, wanted=None):
+    if isinstance(wanted, slice):
+        wanted = text[wanted]
+    number, values, file = text_model.compile(text, room, edition, wanted)
     return (len(file), file) if file is not None else (pack(number, *values), None)
 
 
@@ -383,7 +401,7 @@ def model_capability(kind, place):
     return name
 
 
-NAME = Lent()
+NAME = Lent(capacity=1 << 15)
 
 
 def find(name, edition):

@@ -1,8 +1,9 @@
 """Holds compiling by the library to the vectors, document 01's examples and the model.
 
 The texts that go to library and model are all short ones of some kinds, and generated ones in
-editions of all sizes, the same in every run. Fails at the first difference, and if a refusal, or a
-case that NEEDED names, never came.
+editions of all sizes, the same in every run. Their first description is compiled; test_uses.py has
+what concerns others. Fails at the first difference, and if a refusal, or a case that NEEDED names,
+never came.
 """
 
 import sys
@@ -21,7 +22,7 @@ from text_model import LARGEST_TEXT, NAME
 
 SEED = 138
 GENERATED = 120_000
-REFUSALS = (0, 1, 3, 8, 9, 10, 11, 12, 13)  # 0 is success
+REFUSALS = (0, 1, 3, 8, 9, 10, 11, 13, 18)  # 0 is success
 
 # Counting and comparing
 
@@ -34,7 +35,7 @@ NEEDED += [(0, "names of 126 bytes"), (0, "names of 127 bytes"), (13, "names of 
 NEEDED += [(0, "string of 1,000 bytes"), (13, "string of 1,001 bytes")]
 NEEDED += [(0, "number of 99 digits"), (13, "number of 100 digits")]
 NEEDED += [(10, "NUL last"), (0, "no line end last"), (0, "a field twice")]
-NEEDED += [(number, where) for number in (10, 11, 12, 13) for where in ("first field", "later")]
+NEEDED += [(number, where) for number in (10, 11, 13, 18) for where in ("first field", "later")]
 NEEDED += [(10, "header"), (13, "header"), (10, "column 1")]
 EDITIONS = ("the first edition", "the second edition", "an edition with unnamed places",
             "another edition")
@@ -48,13 +49,13 @@ seen = Counter()
 tags = []  # the cases that the generated text was made for
 
 
-def check(text, room, edition=SECOND_EDITION):
+def check(text, room, edition=SECOND_EDITION, wanted=None):
     """Compares library and model; returns the answer and the file that they give."""
-    found = library.compile_text(text, room, edition)
-    expected = library.model_compile(text, room, edition)
+    found = library.compile_text(text, room, edition, wanted)
+    expected = library.model_compile(text, room, edition, wanted)
     if found != expected:
         print("the library gives", *shown(found), "\nthe model gives", *shown(expected))
-        sys.exit(f"compiling in the edition {edition} with room {room} of {text} differs")
+        sys.exit(f"compiling {wanted} in the edition {edition} with room {room} of {text} differs")
     tally[found[0] >> 56] += 1
     return found
 
@@ -111,7 +112,8 @@ def where(text, place):
 def run_vectors():
     total = 0
     for line, given, out in lines("compile"):
-        arguments = bytes_of(given["text"]), given["room"], given["edition"]
+        wanted = given["wanted"] and bytes_of(given["wanted"])
+        arguments = bytes_of(given["text"]), given["room"], given["edition"], wanted
         check_written(line, library.compile_text(*arguments), library.model_compile(*arguments),
                       out)
         total += 1
@@ -164,7 +166,7 @@ FIELDS = [
     (b"cr=^\n M,", (10, 0)), (b"cr=a", (10, 0)), (b"cr=a\n\t", (10, 0)), (b"cr=\x7f,", (10, 0)),
     (b"cr=\x80,", (10, 0)), (b"cr=\0,", (10, 0)), (b"cr=a\n\t,am,", {"cr": b"a", "am": None}),
     (b"cr=" + LONG[1:] + b",", {"cr": LONG[1:]}), (b"cr=" + LONG + b",", (13, 0)),
-    (b"am=" + LONG + b",", (11, 0)), (b"use=" + LONG + b",", (12, 0)),
+    (b"am=" + LONG + b",", (11, 0)), (b"use=" + LONG + b",", (13, 0)),
     (b"am, bw@,\tit@,cr@,", {"am": None, "bw": CANCEL, "it": CANCEL, "cr": CANCEL}),
     (b"am,\n am@,", {"am": None}), (b"am@, am,", {"am": CANCEL}),
     (b"it#1, it#2,", {"it": 1}), (b"cr=a, cr=b, cr@,", {"cr": b"a"}),
@@ -176,14 +178,14 @@ FIELDS = [
     (b"am, ,", (10, 4)), (b"am, # note", (10, 4)), (b"am,# note", (10, 3)),
     (b"am,\n# note\n", {"am": None}), (b"am,\n \t# \0\r\xff", {"am": None}),
     (b"am,\n\n \n\tbw,", {"am": None, "bw": None}), (b"am,\nbw,", (10, 4)),
-    (b"am,\na|b,\n", (10, 4)), (b"am,\n a|b,\n", (11, 5)), (b"=x,", (10, 0)), (b"@,", (10, 0)),
+    (b"am,\na|b,\n", {"am": None}), (b"am,\n a|b,\n", (11, 5)), (b"=x,", (10, 0)), (b"@,", (10, 0)),
     (b".am,", {}), (b".zz#99999,am,", {"am": None}), (b".am, am@,", {"am": CANCEL}),
     (b"..,", {}), (b".,", (10, 0)), (b".#5,", (10, 0)), (b". am,", (10, 0)),
     (b".use=x,", {}), (b".it#0" + 100 * b"0" + b",", {}), (b".cr=" + LONG + b",", {}),
     (b".it#08,", (10, 0)), (b".it#0x,", (10, 0)), (b".cr=\\400,", (10, 0)), (b".am", (10, 0)),
     (b"zz,", (11, 0)), (b"zz@,", (11, 0)), (b"AM,", (11, 0)), (b"am#1,", (11, 0)),
     (b"am=x,", (11, 0)), (b"it,", (11, 0)), (b"it=1,", (11, 0)), (b"cr,", (11, 0)),
-    (b"cr#1,", (11, 0)), (b"am#99999,", (11, 0)), (b"use=x,", (12, 0)), (b"use=,", (12, 0)),
+    (b"cr#1,", (11, 0)), (b"am#99999,", (11, 0)), (b"use=x,", (18, 0)), (b"use=,", (18, 0)),
     (b"use=\\a,", (10, 0)), (b"use,", (11, 0)), (b"use@,", (11, 0)), (b"use#1,", (11, 0)),
     (b"zz, am", (11, 0)), (b"am, zz, am", (11, 4)),
 ]
@@ -204,7 +206,7 @@ EDITION_FIELDS = [
     (b"cr=a,", (64, 64, 2), (11, 0)), (b"cr=a,", (0, 0, 3), {"cr": b"a"}),
     (b"am, ncv#3, rmln=x,", LARGEST_EDITION, {"am": None, "ncv": 3, "rmln": b"x"}),
     (b"kf11=x,", LARGEST_EDITION, (11, 0)), (b".am,", (0, 0, 0), {}), (b"am,", (0, 0, 0), (11, 0)),
-    (b"use=x,", (0, 0, 0), (12, 0)), (b"", (0, 0, 0), {}), (b"", (38, 17, 159), {}),
+    (b"use=x,", (0, 0, 0), (18, 0)), (b"", (0, 0, 0), {}), (b"", (38, 17, 159), {}),
 ]
 # Editions that are too large, which is judged before the text.
 TOO_LARGE = [(65, 64, 512), (64, 65, 512), (64, 64, 513), (65, 0, 0), (0, 65, 0), (0, 0, 513)]
@@ -440,7 +442,7 @@ def field(edition):
     return capability(kind, edition) + form(kind) + b","
 
 
-# Fields that are refused, most of them with 10, 11 and 12 in this order.
+# Fields that are refused, most of them with 10, 11 and 18 in this order.
 MALFORMED = [
     b",", b"am", b"am ,", b"am\t,", b"am\0,", b"am\r,", b"a\0m,", b".,", b". am,", b".@,", b"#5,",
     b"=x,", b"@,", b"#", b"# note,", b"\0", b"\r", b"\x80,", b"am\x7f,", b"am@@,", b"am@x,",
@@ -459,7 +461,8 @@ UNKNOWN = [
     b"a|b,", b"am#99999,", b"cr#99999,", b"it=,", b"a\\,", b"zz=" + LONG + b",",
     b"zz#" + 100 * b"1" + b",", b"am=" + LONG + b",", b"am|,", b"!,", b"~@,", b"\",", b"am.,",
     b"k f1,"]
-USE = [b"use=,", b"use=x,", b"use=vt100,", b"use=\\0,", b"use=a\n\tb,", b"use=" + LONG + b","]
+USE = [b"use=,", b"use=x,", b"use=vt100,", b"use=\\0,", b"use=a\n\tb,", b"use=" + LONG[1:] + b",",
+       b"use=" + LONG + b","]
 
 
 def past_limit(edition):
@@ -633,12 +636,12 @@ def check_generated():
             seen[3, "a text that the second edition accepts"] += 1
 
 
-def check_larger(text, edition):
+def check_larger(text, edition, wanted=None):
     """A larger edition gives the same names and states, the others absent, unless 9 applies."""
-    _, file = check(text, LARGEST_FILE, edition)
+    _, file = check(text, LARGEST_FILE, edition, wanted)
     names, states = library.contents(file, edition)
     after = larger(edition)
-    answer, file = check(text, LARGEST_FILE, after)
+    answer, file = check(text, LARGEST_FILE, after, wanted)
     seen[answer >> 56, "in a larger edition, accepted in the smaller"] += 1
     if file is None:
         same(answer, pack(9), text)

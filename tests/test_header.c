@@ -52,8 +52,8 @@ static void listing(void) {
     size_t starts[138], lengths[138], length;
     uint64_t answer;
 
-    length = (size_t)terminfo_compile((const uint8_t *)text, strlen(text), TERMINFO_FIRST_EDITION,
-                                      file, sizeof file);
+    length = (size_t)terminfo_compile_first((const uint8_t *)text, strlen(text),
+                                            TERMINFO_FIRST_EDITION, file, sizeof file);
     assert(length < sizeof file);
     memset(booleans, 9, sizeof booleans);
     answer = terminfo_list(file, length, 21, 8, 138, booleans, 22, numbers, 8, values, 8, strings,
@@ -157,11 +157,11 @@ static uint64_t named(const uint8_t *file, size_t length, const char *name) {
                           strlen(name));
 }
 
-/* Compiles a text of C in an edition. */
+/* Compiles the first description of a text of C in an edition. */
 static uint64_t compile(const char *text, size_t booleans, size_t numbers, size_t strings,
                         uint8_t *buffer, size_t room) {
-    return terminfo_compile((const uint8_t *)text, strlen(text), booleans, numbers, strings, buffer,
-                            room);
+    return terminfo_compile_first((const uint8_t *)text, strlen(text), booleans, numbers, strings,
+                                  buffer, room);
 }
 
 /* A text compiled and read back, and a field that is refused with its place. */
@@ -243,13 +243,74 @@ static void editions(void) {
 
     buffer[0] = '.';
     memset(spaces, ' ', sizeof spaces);
-    answer = terminfo_compile(spaces, sizeof spaces, 65, 64, 512, buffer, 0);
+    answer = terminfo_compile_first(spaces, sizeof spaces, 65, 64, 512, buffer, 0);
     assert(terminfo_refusal(answer) == TERMINFO_REFUSED_COUNTS && terminfo_value(answer) == 0);
     assert(terminfo_refusal(compile(text, 64, 65, 512, buffer, sizeof buffer)) == 3);
     assert(terminfo_refusal(compile("", 64, 64, 513, buffer, sizeof buffer)) == 3);
     assert(terminfo_refusal(compile("", SIZE_MAX, SIZE_MAX, SIZE_MAX, buffer, 0)) == 3);
-    answer = terminfo_compile(spaces, sizeof spaces, 64, 64, 512, buffer, 0);
+    answer = terminfo_compile_first(spaces, sizeof spaces, 64, 64, 512, buffer, 0);
     assert(terminfo_refusal(answer) == TERMINFO_REFUSED_LENGTH && buffer[0] == '.');
+    answer = terminfo_compile(spaces, sizeof spaces, spaces, 1, 65, 64, 512, buffer, 0);
+    assert(terminfo_refusal(answer) == TERMINFO_REFUSED_COUNTS);
+    answer = terminfo_compile(spaces, sizeof spaces, spaces, 1, 64, 64, 512, buffer, 0);
+    assert(terminfo_refusal(answer) == TERMINFO_REFUSED_LENGTH && buffer[0] == '.');
+}
+
+/* Compiles the description of a text of C that has a name, in the second edition. */
+static uint64_t compile_named(const char *text, const char *name, uint8_t *buffer, size_t room) {
+    return terminfo_compile((const uint8_t *)text, strlen(text), (const uint8_t *)name,
+                            strlen(name), TERMINFO_SECOND_EDITION, buffer, room);
+}
+
+/* Descriptions that use others, by both calls: own fields first, then the leftmost use, a cancelled
+ * state that stays cancelled; the first one by its name and without; 18, 19 and 20 with their
+ * places. */
+static void descriptions(void) {
+    const char *text = "third|t|the third,\n\tuse=panel, lines#50,\n"
+                       "panel|a panel,\n\tuse=base, ri@, cols#40,\n"
+                       "base|the base,\n\tam, cols#80, lines#24, ri=\\EM,\n"
+                       "back|comes back,\n\tam, use=back,\n";
+    const char *chain = "a|1,\n use=b,\nb|2,\n use=c,\nc|3,\n use=d,\nd|4,\n use=e,\ne|5,\n use=f,\n"
+                        "f|6,\n use=g,\ng|7,\n use=h,\nh|8,\n use=i,\ni|9,\n use=j,\nj|10,\n am,\n";
+    uint8_t buffer[500], again[500];
+    uint64_t answer;
+    size_t length;
+
+    answer = compile(text, TERMINFO_SECOND_EDITION, buffer, sizeof buffer);
+    assert(terminfo_refusal(answer) == 0);
+    length = (size_t)terminfo_value(answer);
+    assert(compile_named(text, "third", again, sizeof again) == answer);
+    assert(!memcmp(again, buffer, length));
+    assert(compile_named(text, "t", again, sizeof again) == answer);
+    answer = terminfo_names(buffer, length, TERMINFO_SECOND_EDITION);
+    assert(terminfo_length(answer) == strlen("third|t|the third"));
+    assert(terminfo_kind(named(buffer, length, "am")) == TERMINFO_PRESENT);
+    assert(terminfo_value(named(buffer, length, "cols")) == 40);
+    assert(terminfo_value(named(buffer, length, "lines")) == 50);
+    assert(terminfo_kind(named(buffer, length, "ri")) == TERMINFO_CANCELLED);
+    answer = compile_named(text, "base", buffer, sizeof buffer);
+    length = (size_t)terminfo_value(answer);
+    assert(terminfo_kind(named(buffer, length, "ri")) == TERMINFO_PRESENT);
+    assert(terminfo_value(named(buffer, length, "lines")) == 24);
+
+    memset(buffer, '.', sizeof buffer);
+    answer = compile_named(text, "the base", buffer, sizeof buffer);
+    assert(terminfo_refusal(answer) == TERMINFO_REFUSED_NOT_FOUND && terminfo_value(answer) == 0);
+    answer = compile_named(text, "", buffer, sizeof buffer);
+    assert(terminfo_refusal(answer) == TERMINFO_REFUSED_NOT_FOUND && terminfo_value(answer) == 0);
+    answer = compile("a|b,\n am, use=c,\n", TERMINFO_SECOND_EDITION, buffer, sizeof buffer);
+    assert(terminfo_refusal(answer) == TERMINFO_REFUSED_NOT_FOUND && terminfo_value(answer) == 10);
+    answer = compile_named(text, "back", buffer, sizeof buffer);
+    assert(terminfo_refusal(answer) == TERMINFO_REFUSED_CIRCULAR);
+    assert(terminfo_value(answer) == strlen(text) - strlen("use=back,\n"));
+    answer = compile(chain, TERMINFO_SECOND_EDITION, buffer, sizeof buffer);
+    assert(terminfo_refusal(answer) == TERMINFO_REFUSED_NINTH_USE);
+    assert(terminfo_value(answer) == (size_t)(strstr(chain, "use=j") - chain));
+    answer = compile_named(text, "panel", buffer, 14);
+    assert(terminfo_refusal(answer) == TERMINFO_REFUSED_ROOM && buffer[0] == '.');
+    answer = compile_named(chain, "b", buffer, sizeof buffer);
+    assert(terminfo_refusal(answer) == 0);
+    assert(terminfo_kind(named(buffer, (size_t)answer, "am")) == TERMINFO_PRESENT);
 }
 
 /* Refusals, and the name of a capability, both ways. */
@@ -304,6 +365,7 @@ int main(void) {
     expanding();
     compiling();
     editions();
+    descriptions();
     refusals();
 #ifdef __cplusplus
     puts("the example works in C++");

@@ -6,7 +6,8 @@ again without an extended section, every capability of the second edition is hel
 prints. The library compiles the source text of the same entries, and infocmp must print the same
 capabilities for its files; compiled in the first and in the second edition, each is read by the
 other. No entry is left out: where document 01 refuses a file, its names or a number, that refusal
-is checked.
+is checked. Descriptions that use others are held to what tic makes of them; where a used one cancels
+a capability, tic leaves it absent in the one that uses it.
 """
 
 import os
@@ -23,7 +24,10 @@ import model
 import text_model
 from library import Reader, contents, pack, part_of, state_of
 from model import FIRST_EDITION, LARGEST_FILE, LARGEST_SHORT, SECOND_EDITION
+from test_random import below, chance, pick, rng
 
+SEED = 85
+USE_TEXTS = 40
 ENVIRONMENT = {"PATH": os.environ["PATH"], "LC_ALL": "C"}
 ESCAPES = {"E": 27, "e": 27, "n": 10, "l": 10, "r": 13, "t": 9, "b": 8, "f": 12, "s": 32}
 ESCAPE = re.compile(rb"\\([0-7]{1,3})|\\(.)|\^(.)", re.DOTALL)
@@ -391,12 +395,77 @@ def check_editions(text):
         fail(names, "compiled in the first edition gives", hex(answer))
 
 
+def own_field(kind, name, entry, cancels):
+    """A field whose content tells its entry, or now and then one that cancels."""
+    if cancels and chance() < 0.3:
+        return name + "@"
+    if kind == model.NUMBER:
+        return f"{name}#{below(1000)}"
+    return f"{name}={entry}" if kind == model.STRING else name
+
+
+def use_text(at):
+    """A text of descriptions in layers, which use some of the two layers below; all their names.
+
+    No capability has two fields in one, since of those tic takes the last, and none has smacs, for
+    which tic adds an acsc. Only descriptions of the first layer, which no other uses, cancel some.
+    """
+    known = [capability for capability in CAPABILITIES if capability[2] != "smacs"]
+    layers = [[f"u{at}-{depth}-{number}" for number in range(4)] for depth in range(8)]
+    texts = {}
+    for depth, layer in enumerate(layers):
+        lower = [entry for used in layers[depth + 1:depth + 3] for entry in used]
+        for entry in layer:
+            uses = rng.sample(lower, min(len(lower), pick(0, 1, 1, 2, 3)))
+            made = [f"use={used}" for used in uses]
+            made += [own_field(kind, name, entry, depth == 0)
+                     for kind, _, name in rng.sample(known, pick(0, 2, 5, 15))]
+            rng.shuffle(made)
+            texts[entry] = f"{entry}|an entry that uses {len(uses)},\n" + "".join(
+                f"\t{field},\n" for field in made)
+    order = rng.sample(list(texts), len(texts))
+    return "".join(texts[entry] for entry in order).encode(), order
+
+
+def check_used(folder, text, entry, absent=()):
+    """A description by the library and by tic, which leaves those named absent where ours cancel."""
+    answer, file = library.compile_text(text, LARGEST_FILE, SECOND_EDITION, entry.encode())
+    if file is None:
+        fail(entry, "is refused", hex(answer), "in", text)
+    _, names, states = opened(file)
+    for kind, place, name in CAPABILITIES:
+        if states.get((kind, place)) == CANCEL and (kind == model.BOOLEAN or name in absent):
+            del states[kind, place]
+    by_tic = opened(compiled(folder, entry))
+    if by_tic != (0, names, states):
+        fail(entry, "by tic", by_tic, "by us", names, states, "of", text)
+    return len(states)
+
+
+def check_uses(folder):
+    """Generated texts, and the family of consoles, of which one uses a panel that cancels ri."""
+    rng.seed(SEED)
+    count = states = 0
+    for at in range(USE_TEXTS):
+        text, entries = use_text(at)
+        compile_text(text, folder)
+        states += sum(check_used(folder, text, entry) for entry in entries)
+        count += len(entries)
+    text = (library.ROOT / "examples" / "family.ti").read_bytes()
+    compile_text(text, folder)
+    for entry, absent in (("base", ()), ("wide", ()), ("one-way", ()), ("relay", ("ri",))):
+        states += check_used(folder, text, entry, absent)
+        count += 1
+    return f"{count} descriptions with {states} states, by uses of others, agree with tic"
+
+
 if __name__ == "__main__":
     all_installed = list(installed())
     with tempfile.TemporaryDirectory() as name:
         order = check_order(Path(name))
+        used = check_uses(Path(name))
         outcome = check_installed(Path(name), all_installed)
     with tempfile.TemporaryDirectory() as name:
         texts_compiled = check_compiled(Path(name), all_installed)
-    print(f"{order} entries of one or all capabilities agree with tic; {outcome}; "
+    print(f"{order} entries of one or all capabilities agree with tic; {used}; {outcome}; "
           f"{texts_compiled}; infocmp prints the same")

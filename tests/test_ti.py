@@ -18,10 +18,13 @@ import act4
 import expand_model
 import model
 import text_model
+import use_texts
 from model import FIRST_EDITION, LARGEST_EDITION, LARGEST_FILE, SECOND_EDITION, Refusal
 from test_compile import larger, pick_text
 from test_expand import pick_string, pick_values
 from test_random import make_pair, pick, pick_file, rng, upto
+from test_uses import EXAMPLES, HEADERS
+from test_uses import pick_text as pick_uses, pick_wanted
 from test_vectors import same
 
 TI = str(Path(__file__).resolve().parent.parent / "ti")
@@ -54,6 +57,15 @@ HEADER_SENTENCES = {
     10: "the header is malformed, or there is none",
     13: "an alias is longer than 14 bytes, or all names than 127",
 }
+LATER_SENTENCES = {
+    10: "malformed header, or a field that is not indented",
+    13: "an alias is longer than 14 bytes, all names than 127, or this is the 65th header",
+}
+USE_SENTENCES = {
+    18: "nothing is named {}",
+    19: "{} is being worked on already: its uses come back to it",
+    20: "{} is the ninth use of a chain, which may have eight",
+}
 STRING_SENTENCES = {
     1: "the string is longer than 1,000 bytes",
     14: "malformed item, or a conditional that is not closed",
@@ -65,8 +77,10 @@ OTHER_KIND = {
     model.NUMBER: "is a number, which is written with #",
     model.STRING: "is a string, which is written with =",
 }
+NO_NAME = "ti: no name stands behind -n\n"
+COMPILE_USAGE = "usage: ti compile [-e EDITION] [-n NAME] [FILE] OUT\n"
 OTHER_USER = ["setpriv", "--reuid=65534", "--regid=65534", "--clear-groups"]
-PATH_MOST = 4095  # the most bytes of a path on Linux
+PATH_MOST = 4095  # the most bytes of a path on Linux, and of a name
 folder = Path()  # where ti is run
 
 
@@ -97,6 +111,13 @@ def option(edition):
     return chosen
 
 
+def wanted_words(wanted):
+    """The words that give ti a wanted name (None: the text's first description is wanted)."""
+    if wanted is None:
+        return []
+    return [*pick([], [], ["-n", pick("", "x", "-n", "--")]), "-n", wanted]  # the last -n counts
+
+
 def pick_edition():
     """The second edition, the first, smaller or larger ones."""
     return pick(SECOND_EDITION, SECOND_EDITION, FIRST_EDITION, FIRST_EDITION,
@@ -105,15 +126,19 @@ def pick_edition():
 
 def field_sentence(text, number, byte, edition):
     """What ti says of the field at a byte, compiled in an edition."""
-    if number == 12:
-        return "use= is not covered"
+    if text[byte - 1:byte] == b"\n":
+        return LATER_SENTENCES[number]
     if number == 10:
-        at_start = byte == 0 or text[byte - 1:byte] == b"\n"
-        return "a second header, or a field that is not indented" if at_start else "malformed field"
+        return "malformed field"
+    if number in USE_SENTENCES:
+        name, _ = text_model.read_string(text, byte + len(b"use="))
+        return USE_SENTENCES[number].format(f"'{shown(name, 32)}'")
     name = re.match(rb"[!-~]*?(?=[^!-~]|[,=#@]|$)", text[byte:])[0]
     kind = next((kind for kind, names in enumerate(model.LISTS) if name.decode() in names), None)
     quoted = f"'{shown(name, 32)}'"
     if number == 11:
+        if name == b"use":
+            return "'use' names a description, and is written with ="
         if kind is None:
             return f"unknown capability {quoted}"
         known = name.decode() in model.LISTS[kind][:edition[kind]]
@@ -122,13 +147,15 @@ def field_sentence(text, number, byte, edition):
                      else " is longer than 1,000 bytes")
 
 
-def text_refusal(source, text, errors, edition):
+def text_refusal(source, text, errors, edition, wanted):
     """The number and the byte of a text's refusal, whose message is held to its form."""
     found = FIELD.fullmatch(errors)
     if found is None:
         name, sentence, number, byte = REFUSED.fullmatch(errors).groups()
         same((name, byte in (None, "0")), (source, True), errors)
         sentences = TEXT_SENTENCES if byte is None else HEADER_SENTENCES
+        if wanted is not None and byte is not None:
+            sentences = {18: f"nothing is named '{shown(wanted, 32)}'", **sentences}
         same(sentence, sentences[int(number)], errors)
         return int(number), None if byte is None else 0
     name, line, column, sentence, number, byte = found.groups()
@@ -140,13 +167,14 @@ def text_refusal(source, text, errors, edition):
     return number, byte
 
 
-def compiled(name, text, edition):
+def compiled(name, text, edition, wanted=None):
     """The number of the refusal, or 0, and its place, as ti gives them for a text in an edition.
 
     The file is there if and only if the number is 0; else an old one stays, or none comes.
     """
     before = files()
-    status, printed, errors = ti("compile", *option(edition), name, text=text)
+    first, second = rng.sample([option(edition), wanted_words(wanted)], 2)
+    status, printed, errors = ti("compile", *first, *second, name, text=text)
     after = files()
     if status == 0:
         file = after.get(name)
@@ -154,11 +182,11 @@ def compiled(name, text, edition):
         same(after, {**before, name: file}, "files")
         return 0, None, file
     same((status, printed, after), (1, "", before), text)
-    return *text_refusal("standard input", text, errors, edition), None
+    return *text_refusal("standard input", text, errors, edition, wanted), None
 
 
-def expected(text, edition):
-    number, values, file = text_model.compile(text, LARGEST_FILE, edition)
+def expected(text, edition, wanted=None):
+    number, values, file = text_model.compile(text, LARGEST_FILE, edition, wanted)
     return number, values[0] if values else None, file
 
 
@@ -182,6 +210,87 @@ def check_examples():
             same(compiled(name, text, edition), expected(text, edition), text)
             (folder / "none").unlink(missing_ok=True)
     return 4 * len(texts) + 2
+
+
+def check_uses():
+    """Descriptions that use others, wanted by name: document 02's examples, names in messages."""
+    put("old", OLD)
+    examples = [example[:2] for example in EXAMPLES if b"\0" not in (example[1] or b"")]
+    examples += [(text, None) for text in use_texts.TEXTS.values()]
+    for text, wanted in examples:
+        same(compiled("old", text, SECOND_EDITION, wanted), expected(text, SECOND_EDITION, wanted),
+             (text, wanted))
+        put("old", OLD)
+    comments = 9 * (b"#" + 21 * b"x" + b"\n") + b"#" + 24 * b"x" + b"\n"
+    chain = b"".join(b"a%d|b,\n\tuse=a%d,\n" % (link, link + 1) for link in range(10))
+    nothing = "nothing is named "
+    back = " is being worked on already: its uses come back to it"
+    long = "an alias is longer than 14 bytes, all names than 127, or this is the 65th header"
+    for text, wanted, place, sentence, end in (
+            (b"a|b,\n" + comments + b"  use=vt999,\n", None, ":12:3", nothing + "'vt999'",
+             "18, byte 240"),
+            (b"a|b,\n\tam, use=v\\1640^[\\377x\n y,\n", None, ":2:6",
+             nothing + "'vt0\\033\\377xy'", "18, byte 10"),
+            (b"a|b,\n\tuse=,\n", None, ":2:2", nothing + "''", "18, byte 6"),
+            (b"a|b,\n", b"vt999", "", nothing + "'vt999'", "18, byte 0"),
+            (b"a|b,\n", b"", "", nothing + "''", "18, byte 0"),
+            (b"a|b,\n", b"b", "", nothing + "'b'", "18, byte 0"),
+            (b"a|b,\n", b"a\n\\\xff", "", nothing + "'a\\012\\134\\377'", "18, byte 0"),
+            (b"a|b,\n\tuse=a,\n", None, ":2:2", "'a'" + back, "19, byte 6"),
+            (b"a|b,\n\tuse=c,\nc|d,\n\tam, use=a,\n", b"a", ":4:6", "'a'" + back, "19, byte 23"),
+            (b"a|b,\n\tuse=c,\nc|d,\n\tam, use=a,\n", b"c", ":2:2", "'c'" + back, "19, byte 6"),
+            (chain, None, ":18:2", "'a9' is the ninth use of a chain, which may have eight",
+             "20, byte 127"),
+            (chain, b"a2", ":20:2", nothing + "'a10'", "18, byte 142"),
+            (b"".join(HEADERS) + b"e|x,\n", b"d63", ":65:1", long, "13, byte 448"),
+            (b"a|b,\n" + 15 * b"c" + b"|d,\n", None, ":2:1", long, "13, byte 5")):
+        words = [] if wanted is None else ["-n", wanted]
+        for name, source in (("standard input", []), ("text.ti", [put("text.ti", text)])):
+            same(ti("compile", *words, *source, "old", text=text),
+                 (1, "", f"ti: {name}{place}: {sentence} (refusal {end})\n"), (text, wanted))
+    same((folder / "old").read_bytes(), OLD, "old")
+    return len(examples) + 28
+
+
+def check_wanted():
+    """-n and its word: of several the last counts; missing, too long, before `--`, elsewhere."""
+    put("act", act4.dumped())
+    put("two.ti", b"a|b|c,\n\tam,\n-n|--|d,\n\tbw, use=a,\n")
+    (folder / "out").unlink(missing_ok=True)
+    before = files()
+    first, second = (expected((folder / "two.ti").read_bytes(), SECOND_EDITION, wanted)[2]
+                     for wanted in (b"a", b"-n"))
+    words = [([], first), (["-n", "a"], first), (["-n", "b"], first), (["-n", "-n"], second),
+             (["-n", "--"], second), (["-n", "a", "-n", "-n", "-e", "2"], second),
+             (["-n", "-n", "-n", "a", "--"], first),
+             (["-n", "none", "-e", "1", "-e", "2", "-n", "b"], first)]
+    for given, file in words:
+        same(ti("compile", *given, "two.ti", "out"),
+             (0, f"compiled: {len(file)} bytes\n", ""), given)
+        same(files(), {**before, "out": file}, given)
+        (folder / "out").unlink()
+    same(ti("compile", "-n", "a", "--", "two.ti", "-n")[0], 0, "a file -n")
+    same((folder / "-n").read_bytes(), first, "a file -n")
+    (folder / "-n").unlink()
+    for given in (["-n"], ["-e", "1", "-n"], ["-n", "a", "-n"]):
+        same(ti("compile", *given), (2, "", NO_NAME + COMPILE_USAGE), given)
+    for given in (["-n", "two.ti"], ["-n", "a"], ["-n", "a", "two.ti", "out", "more"],
+                  ["-n", "a", "--"]):
+        same(ti("compile", *given), (2, "", COMPILE_USAGE), given)
+    for word in ("-na", "--n", "-N"):
+        same(ti("compile", word, "a", "two.ti", "out"),
+             (2, "", f"ti: unknown option '{word}'\n" + COMPILE_USAGE), word)
+    for command, operands in OPERANDS.items():
+        if command != "compile":
+            status, printed, errors = ti(command, "-n", "a", *operands)
+            same((status, printed, errors.partition("\n")[0]), (2, "", "ti: unknown option '-n'"),
+                 command)
+    same(ti("compile", "-n", PATH_MOST * "n", "two.ti", "out")[0], 1, "a long name")
+    same(ti("compile", "-n", 5000 * "n", "two.ti", "out")[:2], (2, ""), "a longer name")
+    same(ti("compile", "-n", "a", "-e", "65,0,0", "missing", "out"), (1, "", TOO_LARGE), "edition")
+    same(ti("compile", "-n", "none", "missing", "out")[:2], (2, ""), "missing")
+    same(files(), before, "files")
+    return len(words) + 19
 
 
 def check_names():
@@ -222,7 +331,16 @@ def check_terminal():
         same((done.returncode, done.stdout), (1, b""), name)
         same(told, said.replace(b"wrong.ti", name.encode())
              + b" am, cols#80, wrong, it#8,\n" + 14 * b" " + b"^\n", name)
-    return 3
+    put("uses.ti", b"a|b,\n\tuse=c,\nc|d,\n\tam,\tuse=a,\n")
+    put("header.ti", b"a|b,\n\tam,\nc|d\x7f,\n")
+    for name, end in (("uses.ti", b" am, use=a,\n     ^\n"), ("header.ti", b"c|d?,\n^\n")):
+        ours, theirs = os.openpty()
+        subprocess.run([TI, "compile", name, "out"], cwd=folder, stderr=theirs, check=False)
+        os.close(theirs)
+        told = os.read(ours, 10_000).replace(b"\r\n", b"\n")
+        os.close(ours)
+        same(told.partition(b"\n")[2], end, name)
+    return 5
 
 
 def check_failures():
@@ -763,11 +881,17 @@ def check_generated():
     numbers = Counter()
     for _ in range(GENERATED):
         edition = pick_edition()
-        text = pick_text(edition)
-        found = compiled("out", text, edition)
-        same(found, expected(text, edition), text)
+        text, wanted = pick_text(edition), None
+        if rng.random() < 0.5:
+            text, names = pick_uses(edition)
+            wanted = pick_wanted(text, names)
+            wanted = text[wanted] if isinstance(wanted, slice) else wanted
+            if wanted and (b"\0" in wanted or len(wanted) > PATH_MOST):  # no word of a command
+                wanted = b""
+        found = compiled("out", text, edition, wanted)
+        same(found, expected(text, edition, wanted), (text, wanted))
         numbers[found[0]] += 1
-    missing = {0, 1, 9, 10, 11, 12, 13} - set(numbers)
+    missing = {0, 1, 9, 10, 11, 13, 18, 19} - set(numbers)
     if missing:
         sys.exit(f"never seen: {missing}")
     return GENERATED
@@ -778,9 +902,8 @@ if __name__ == "__main__":
         folder = Path(name)
         rng.seed(SEED)
         counts = [check() for check in (
-            check_help, check_examples, check_names, check_terminal, check_failures,
-            check_editions, check_generated, check_files, check_unnamed, check_merges,
-            check_expansions,
-            check_bad_files, check_long_names,
+            check_help, check_examples, check_uses, check_wanted, check_names, check_terminal,
+            check_failures, check_editions, check_generated, check_files, check_unnamed,
+            check_merges, check_expansions, check_bad_files, check_long_names,
             check_closed_streams, check_full_disk, check_no_rights)]
     print(f"{sum(counts)} runs of ti as stated, on the documents' examples and generated input")

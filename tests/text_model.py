@@ -1,8 +1,8 @@
-"""Compiling source text as document 01 defines it: lines, header, fields, strings and numbers.
+"""Compiling source text as document 01 defines it: lines, headers, fields, strings and numbers.
 
-The edition is an input (document 02, 2026-01). Written from the documents alone, independently of
-the library; the tests compare the two. Each refusal gives document 01's number and the values that
-come with it.
+The edition is an input (document 02, 2026-01), and a text holds descriptions that build on others
+(2026-02). Written from the documents alone, independently of the library; the tests compare the
+two. Each refusal gives the documents' number and the values that come with it.
 """
 
 import re
@@ -15,6 +15,8 @@ LARGEST_TEXT = 16384
 LONGEST_ALIAS = 14
 LONGEST_NAMES = 127
 MOST_DIGITS = 99
+MOST_DESCRIPTIONS = 64
+MOST_USES = 8  # of a chain
 
 # A line that is skipped: white space alone, or a comment. The text's end closes a line too.
 SKIPPED_LINE = re.compile(rb"[ \t]*(?:#[^\n]*)?(?:\n|\Z)")
@@ -50,6 +52,15 @@ class Field(NamedTuple):
     dropped: bool
     kind: Optional[int]  # of capability; None for a cancelled one
     content: object  # of a number its value (None: too many digits), of a string its bytes
+
+
+class Description(NamedTuple):
+    """A header and its fields: what it says itself, and which others it uses."""
+
+    place: int  # that its header's refusals give: its first byte, 0 for the text's first header
+    names: list
+    states: dict  # by kind of capability and place; the first field for a capability stands
+    uses: list  # first byte of each `use` field and the name in it, from left to right
 
 
 def follows(text, place, byte):
@@ -139,23 +150,21 @@ def skip_lines(text, place):
     return place
 
 
-def next_field(text, place):
-    """Where the field starts that is next on the line, or, from a line's start, on later lines.
+def next_start(text, place):
+    """Where the next field or header starts: on the line, or, from a line's start, on later lines.
 
-    None if the text ends before that. A line that isn't indented is malformed where it starts.
+    The text's end if there is none. What isn't indented is a header.
     """
     if place and not follows(text, place - 1, b"\n"):
         rest = REST_OF_LINE.match(text, place)
         if rest is None:
             return WHITE_SPACE.match(text, place).end()
         place = rest.end()
-    place = skip_lines(text, place)
-    if place == len(text):
-        return None
-    field = WHITE_SPACE.match(text, place).end()
-    if field == place:
-        raise model.Refusal(10, place)
-    return field
+    return WHITE_SPACE.match(text, skip_lines(text, place)).end()
+
+
+def is_indented(text, place):
+    return place > 0 and not follows(text, place - 1, b"\n")
 
 
 def place_of(field, edition):
@@ -174,53 +183,129 @@ def past_limit(field):
     return field.kind == STRING and len(field.content) > LARGEST_STRING
 
 
-def take(field, start, edition, states):
-    """Judges a field that isn't dropped, and keeps its state if it is the capability's first."""
-    if field.name == b"use" and field.kind == STRING:
-        raise model.Refusal(12, start)
-    capability = place_of(field, edition)
-    if capability is None:
+def take(field, start, edition, description):
+    """Judges a field that isn't dropped, and keeps what it says.
+
+    `use` in another form than that of a string is no name of the lists.
+    """
+    uses = field.name == b"use" and field.kind == STRING
+    capability = None if uses else place_of(field, edition)
+    if not uses and capability is None:
         raise model.Refusal(11, start)
     if past_limit(field):
         raise model.Refusal(13, start)
-    state = (CANCELLED, None) if field.kind is None else (PRESENT, field.content)
-    states.setdefault(capability, state)
+    if uses:
+        description.uses.append((start, field.content))
+    else:
+        state = (CANCELLED, None) if field.kind is None else (PRESENT, field.content)
+        description.states.setdefault(capability, state)
 
 
-def described(text, edition):
-    """The names that a text describes, and the states by kind of capability and place."""
-    model.check_edition(edition)
-    if len(text) > LARGEST_TEXT:
-        raise model.Refusal(1)
-    start = skip_lines(text, 0)
+def headed(text, start, place):
+    """The names in the header at its start, whose refusals give a place, and the next line's start."""
     try:
-        names, place = read_header(text, start)
+        names, after = read_header(text, start)
     except Malformed:
-        raise model.Refusal(10, 0) from None
+        raise model.Refusal(10, place) from None
     if any(len(alias) > LONGEST_ALIAS for alias in names[:-1]):
-        raise model.Refusal(13, 0)
-    states = {}
-    while (start := next_field(text, place)) is not None:
+        raise model.Refusal(13, place)
+    return names, after
+
+
+def read_fields(text, place, edition, description):
+    """Reads the fields of a description; where the next header starts, or the text ends."""
+    while (start := next_start(text, place)) < len(text) and is_indented(text, start):
         try:
             field, place = read_field(text, start)
         except Malformed:
             raise model.Refusal(10, start) from None
         if not field.dropped:
-            take(field, start, edition, states)
-    names = b"|".join(names)
-    if len(names) > LONGEST_NAMES:
-        raise model.Refusal(13, 0)
-    return names, states
+            take(field, start, edition, description)
+    return start
 
 
-def compile(text, room, edition):
-    """Compiles a text in an edition: the refusal's number or 0, its values, the file.
+def descriptions(text, edition):
+    """The descriptions of a text, which is refused by the first bad header or field of them all."""
+    found = []
+    start = skip_lines(text, 0)
+    while not found or start < len(text):
+        place = start if found else 0
+        names, after = headed(text, start, place)
+        if len(found) == MOST_DESCRIPTIONS:
+            raise model.Refusal(13, place)
+        found.append(Description(place, names, {}, []))
+        start = read_fields(text, after, edition, found[-1])
+    return found
+
+
+def check_totals(found):
+    """Refuses the earliest description whose names are too long in all, with the bars."""
+    for description in found:
+        if len(b"|".join(description.names)) > LONGEST_NAMES:
+            raise model.Refusal(13, description.place)
+
+
+def having(found, name):
+    """The number of the earliest description that has a name, other than its last; None if none."""
+    for number, description in enumerate(found):
+        if name in description.names[:-1]:
+            return number
+    return None
+
+
+def over(upper, lower):
+    """Document 01's merge of states; a capability without one is absent."""
+    return {**lower, **upper}
+
+
+def built(found, chain, known=None):
+    """The states that the last description of a chain comes to, merged along the tree of uses.
+
+    A chain has the numbers of the descriptions that are being worked on, the wanted one first.
+    `known`, if it is there, keeps the states by description and length of the chain: the first
+    refusal ends the walk, so that what was met there without one is met without one again.
+    """
+    at = chain[-1], len(chain)
+    if known is not None and at in known:
+        return known[at]
+    description = found[chain[-1]]
+    states = description.states
+    for place, name in description.uses:
+        used = having(found, name)
+        if used is None:
+            raise model.Refusal(18, place)
+        if used in chain:
+            raise model.Refusal(19, place)
+        if len(chain) > MOST_USES:
+            raise model.Refusal(20, place)
+        states = over(states, built(found, [*chain, used], known))
+    if known is not None:
+        known[at] = states
+    return states
+
+
+def described(text, edition, wanted, known):
+    """The names and the states of the description that is wanted; without a name, of the first."""
+    model.check_edition(edition)
+    if len(text) > LARGEST_TEXT:
+        raise model.Refusal(1)
+    found = descriptions(text, edition)
+    check_totals(found)
+    number = 0 if wanted is None else having(found, wanted)
+    if number is None:
+        raise model.Refusal(18, 0)
+    return b"|".join(found[number].names), built(found, [number], known)
+
+
+def compile(text, room, edition, wanted=None, plain=False):
+    """Compiles a description of a text in an edition: the refusal's number or 0, its values, the file.
 
     The file is None if the text is refused. Places of the edition past the lists of names are
-    absent.
+    absent. Without a wanted name the text's first description is compiled. A plain walk follows
+    each use, however often.
     """
     try:
-        names, states = described(text, edition)
+        names, states = described(text, edition, wanted, None if plain else {})
         lists = [[states.get((kind, place), (ABSENT, None)) for place in range(count)]
                  for kind, count in enumerate(edition)]
         return 0, [], model.written(names, lists, room)

@@ -74,13 +74,17 @@ file-back R.Number = refl
 file-back R.Slot = refl
 
 abbrev pub text : ℕ → TextRefusal
-text n = if eqb n 10 then T.Malformed else if eqb n 11 then T.Unknown else if eqb n 12 then T.Use else T.Limit
+text n =
+    if eqb n 10 then T.Malformed else if eqb n 11 then T.Unknown else if eqb n 13 then T.Limit
+    else if eqb n 18 then T.NotFound else if eqb n 19 then T.Circular else T.NinthUse
 
 pub text-back : (r : TextRefusal) → text (textNumber r) ≡ r
 text-back T.Malformed = refl
 text-back T.Unknown = refl
-text-back T.Use = refl
 text-back T.Limit = refl
+text-back T.NotFound = refl
+text-back T.Circular = refl
+text-back T.NinthUse = refl
 
 abbrev pub judged : Answer Sizes → Judged
 judged (gives s) = J.Accepted s
@@ -193,8 +197,10 @@ compiled-back C.Edition = refl
 compiled-back C.Length = refl
 compiled-back (C.Refused T.Malformed p) = refl
 compiled-back (C.Refused T.Unknown p) = refl
-compiled-back (C.Refused T.Use p) = refl
 compiled-back (C.Refused T.Limit p) = refl
+compiled-back (C.Refused T.NotFound p) = refl
+compiled-back (C.Refused T.Circular p) = refl
+compiled-back (C.Refused T.NinthUse p) = refl
 compiled-back C.Size = refl
 compiled-back (C.Room n) = refl
 

@@ -50,7 +50,7 @@ use Rattle.text.specs.declared.TextRefusal.the-variants as T
 use Rattle.text.specs.declared.Compiled.{Compiled}
 use Rattle.text.specs.declared.Compiled.the-variants as C
 use Rattle.text.specs.Compiling.{textNumber, saysCompiled}
-use Rattle.text_laws.specs.Values.{Bounded}
+use Rattle.building_laws.specs.Values.{Bounded}
 use Rattle.expansion.specs.declared.Expansion.{Expansion}
 use Rattle.expansion.specs.declared.Expansion.the-variants as E
 use Rattle.expansion.specs.Expanding.{Counts, saysExpansion}
@@ -297,8 +297,10 @@ file-some R.Slot = omega arith
 text-some : (r : TextRefusal) → 1 ≤ textNumber r
 text-some T.Malformed = omega arith
 text-some T.Unknown = omega arith
-text-some T.Use = omega arith
 text-some T.Limit = omega arith
+text-some T.NotFound = omega arith
+text-some T.Circular = omega arith
+text-some T.NinthUse = omega arith
 
 opened-fits : (r : Opened) → Any r → Fits Any (saysOpened r)
 opened-fits (O.Entry t b) h = tt

@@ -17,7 +17,7 @@ use Rattle.names.specs.declared.Name.the-variants as A
 use Rattle.names.specs.Naming.{naming, saysName}
 use Rattle.names.specs.Finding.{saysFound}
 use Rattle.text.specs.Compiling.{saysCompiled}
-use Rattle.text_laws.specs.Values.{Bounded}
+use Rattle.building_laws.specs.Values.{Bounded}
 use Rattle.expansion.specs.declared.Expansion.{Expansion}
 use Rattle.expansion.specs.declared.Expansion.the-variants as E
 use Rattle.expansion.specs.Expanding.{saysExpansion}

@@ -7,7 +7,7 @@ ghost use Rattle.entry.specs.Says.{saysNames, saysBoolean, saysNumber, saysStri
 ghost use Rattle.names.specs.Finding.{saysFound};
 ghost use Rattle.names.specs.Naming.{saysName};
 ghost use Rattle.text.specs.Compiling.{saysCompiled};
-ghost use Rattle.text_laws.specs.Values.{Bounded};
+ghost use Rattle.building_laws.specs.Values.{Bounded};
 ghost use Rattle.expansion.specs.Expanding.{saysExpansion};
 ghost use Rattle.c_numbers.specs.Numbers.{numbered, partCode, refusedNumber};
 ghost use Rattle.c_numbers.specs.Numbers.{booleanNumber, numberNumber, stringNumber};

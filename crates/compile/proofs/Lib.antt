@@ -1,1 +1,3 @@
-pub mod CompileLaws
+pub mod Cleared
+pub mod Alone
+pub mod Built

@@ -140,6 +140,13 @@ module _ (e : Edition) (bk nk nv sk ss sl t : List ℕ) (h : Holds e (handed [] 
   keeps-nothing said u =
       subst (λ (x : Said). Keeps e (λ n. handed n bk nk nv sk ss sl t) (λ n. handed n bk nk nv sk ss sl t) x) (sym u) (record { holds = h; entry = λ n. refl })
 
+  pub keeps-use : (said : Said) (i m : ℕ) → said ≡ S.Use i m
+      → Keeps e (λ n. handed n bk nk nv sk ss sl t) (λ n. handed n bk nk nv sk ss sl t) said
+  unfolding with-saying
+  keeps-use said i m u =
+      subst (λ (x : Said). Keeps e (λ n. handed n bk nk nv sk ss sl t) (λ n. handed n bk nk nv sk ss sl t) x) (sym u)
+      (record { holds = h; entry = λ n. refl })
+
   pub keeps-boolean : (said : Said) (q : Place) (k : ℕ) (bk′ : List ℕ) → q .0 < e .booleans → bk′ ≡ kept bk bk (q .0) k
       → said ≡ (S.Boolean q k) → Keeps e (λ n. handed n bk nk nv sk ss sl t) (λ n. handed n bk′ nk nv sk ss sl t) said
   unfolding with-saying

@@ -25,7 +25,7 @@ use Rattle.entry_laws.specs.Asked.{opening-is}
 use Rattle.entry_laws.specs.Demands.{countsOf, written-if, written-only-if, written-holds, ReadsAsWritten}
 use Rattle.entry_laws.specs.Demands.{reads-as-written}
 use Rattle.entry_laws.specs.MergeDemands.{merged-if, merged-only-if, merged-holds}
-use Rattle.text_laws.specs.Compiled.{compiled-if, compiled-only-if, compiled-holds}
+use Rattle.building_laws.specs.Compiled.{compiled-if, compiled-only-if, compiled-holds}
 use Rattle.demands.specs.Calls.{Call, write, compile, merge, calling, holding, MeetsLimits, WrittenBy}
 
 same : {A : Type 0} {y z : A} → _≡_ {A = Answer A} (gives y) (gives z) → y ≡ z
@@ -38,7 +38,7 @@ pub written-when : (e : Edition) (k : Call e) (x : Entry) (room : ℕ) → holdi
     → length (encode x) ≤ room → calling e k room ≡ gives (encode x)
 written-when e (write h) x room q m l =
     written-if e h room m (rw (← same q) at l) ∙ ap (λ (y : Entry). gives (encode y)) (same q)
-written-when e (compile t) x room q m l = compiled-if e t room x m l
+written-when e (compile t w) x room q m l = compiled-if e t w room x m l
 written-when e (merge a b) x room q m l =
     merged-if e a b room m (rw (← same q) at l) ∙ ap (λ (y : Entry). gives (encode y)) (same q)
 
@@ -55,8 +55,8 @@ pub written-only-when : (e : Edition) (k : Call e) (room : ℕ) (f : List ℕ) �
 written-only-when e (write h) room f w =
     let p = written-only-if e h room f w in
     record { entry = entryOf e h; held = refl; meets = p .0; fits = p .1 .0; file = p .1 .1 }
-written-only-when e (compile t) room f w =
-    let c = compiled-only-if e t room f w in
+written-only-when e (compile t v) room f w =
+    let c = compiled-only-if e t v room f w in
     record { entry = c .entry; held = c .meets .describes; meets = c .meets; fits = c .fits; file = c .file }
 written-only-when e (merge a b) room f w =
     let p = merged-only-if e a b room f w in
@@ -71,10 +71,10 @@ file-holds e x f w = by-call (w .call) (w .file) (w .held)
   where
     by-call : (k : Call e) → calling e k (w .room) ≡ gives f → holding e k ≡ gives x → WrittenIn e x f
     by-call (write h) c q = subst (λ (y : Entry). WrittenIn e y f) (same q) (written-holds e h (w .room) f c)
-    by-call (compile t) c q =
-        let d : gives (compiled-only-if e t (w .room) f c .entry) ≡ gives x
-        = sym (compiled-only-if e t (w .room) f c .meets .describes) ∙ q in
-        subst (λ (y : Entry). WrittenIn e y f) (same d) (compiled-holds e t (w .room) f c)
+    by-call (compile t v) c q =
+        let d : gives (compiled-only-if e t v (w .room) f c .entry) ≡ gives x
+        = sym (compiled-only-if e t v (w .room) f c .meets .describes) ∙ q in
+        subst (λ (y : Entry). WrittenIn e y f) (same d) (compiled-holds e t v (w .room) f c)
     by-call (merge a b) c q = subst (λ (y : Entry). WrittenIn e y f) (same q) (merged-holds e a b (w .room) f c)
 
 -- in the edition that wrote it, opening gives the file's names, and each place that the edition knows is answered

@@ -29,10 +29,10 @@ use Rattle.text.specs.declared.FieldJudged.the-variants as J
 use Rattle.text.specs.declared.TextRefusal.the-variants as R
 use Rattle.text.specs.declared.Field.the-variants as W
 use Rattle.text.specs.Fields.{fieldAt}
-use Rattle.text.specs.Describing.{sayingOf, namedSaying, isUse, judging}
+use Rattle.text.specs.Describing.{sayingOf, useBy, namedSaying, judging}
 use Rattle.text_laws.specs.FieldLaws.{field-after, field-string}
 use Rattle.judge.specs.Judged.{saysJudged, JudgedIn}
-use Rattle.judge.specs.Kinds.{FormIn, Judges, JudgesNamed, JudgesUnknown}
+use Rattle.judge.specs.Kinds.{FormIn, Judges, JudgesUse, JudgesNamed, JudgesUnknown}
 
 -- ---- the name `use`
 
@@ -61,13 +61,6 @@ use-unknown : (e : Edition) → lookingUp e (ascii "use") ≡ N.Unknown
 unfolding knownIn
 use-unknown e = known-means e (ascii "use") ∙ ap (knownIn e) use-unlisted
 
-is-use-named : (name : List ℕ) (form : FieldForm) → isUse name form ≡ true → name ≡ ascii "use"
-is-use-named name F.Boolean h = true-false (sym h)
-is-use-named name F.Cancelled h = true-false (sym h)
-is-use-named name (F.Number v) h = true-false (sym h)
-is-use-named name F.LargeNumber h = true-false (sym h)
-is-use-named name (F.String i n) h = same-eq name (ascii "use") h
-
 abbrev pub isKnown : Found → Bool
 isKnown (N.Boolean q) = true
 isKnown (N.Number q) = true
@@ -75,11 +68,10 @@ isKnown (N.String q) = true
 isKnown N.Unknown = false
 
 -- a name that means a capability isn't `use`
-not-use-field : (e : Edition) (name : List ℕ) (form : FieldForm) → isKnown (lookingUp e name) ≡ true
-    → isUse name form ≡ false
-not-use-field e name form h =
-    is-false (isUse name form) (λ u.
-    true-false (sym h ∙ ap isKnown (ap (lookingUp e) (is-use-named name form u) ∙ use-unknown e)))
+known-not-use : (e : Edition) (name : List ℕ) → isKnown (lookingUp e name) ≡ true → sameBytes name (ascii "use") ≡ false
+known-not-use e name h =
+    is-false (sameBytes name (ascii "use")) (λ u.
+    true-false (sym h ∙ ap isKnown (ap (lookingUp e) (same-eq name (ascii "use") u) ∙ use-unknown e)))
 
 -- ---- a string's form
 
@@ -92,23 +84,31 @@ module _ (q : Place) (form : FieldForm) (next i n : ℕ) (is : form ≡ F.String
   unfolding sayingOf stateOf
   string-present h e t p k f = (rw (is, le-leb n contentMost h), (k, λ z. (rw is at f, h)))
 
+module _ (form : FieldForm) (next i n : ℕ) (is : form ≡ F.String i n) where
+  pub use-long : contentMost < n → JudgesUse form next (J.Refused R.Limit)
+  use-long h e t p f = (rw (is, lt-leb n contentMost h), tt)
+
+  pub use-said : n ≤ contentMost → JudgesUse form next (J.Said (S.Use i n) next)
+  use-said h e t p f = (rw (is, le-leb n contentMost h), (rw is at f, h))
+
 -- ---- a name
 
-module _ (name : List ℕ) (form : FieldForm) where
-  pub named-use : isUse name form ≡ true → JudgesUnknown name form (J.Refused R.Use)
+module _ (name : List ℕ) (form : FieldForm) (next : ℕ) where
+  pub named-use : sameBytes name (ascii "use") ≡ true → (r : FieldJudged) → JudgesUse form next r
+      → JudgesUnknown name form next r
   unfolding namedSaying
-  named-use h e next u t p f = (rw h, tt)
+  named-use h r j e u t p f = (rw h (j e t p f .0), j e t p f .1)
 
-  pub named-unknown : isUse name form ≡ false → JudgesUnknown name form (J.Refused R.Unknown)
+  pub named-unknown : sameBytes name (ascii "use") ≡ false → JudgesUnknown name form next (J.Refused R.Unknown)
   unfolding namedSaying sayingOf
-  named-unknown h e next u t p f = (rw (h, u), tt)
+  named-unknown h e u t p f = (rw (h, u), tt)
 
-  pub named-found : (e : Edition) (next : ℕ) (found : Found) → lookingUp e name ≡ found → isKnown found ≡ true
+  pub named-found : (e : Edition) (found : Found) → lookingUp e name ≡ found → isKnown found ≡ true
       → (r : FieldJudged) → Judges found form next r → JudgesNamed e name form next r
   unfolding namedSaying
-  named-found e next found g k r j t p f =
+  named-found e found g k r j t p f =
       let u = j e t p (subst (FoundIn e) g (found-in e name)) f in
-      (rw (not-use-field e name form (ap isKnown g ∙ k), g) (u .0), u .1)
+      (rw (known-not-use e name (ap isKnown g ∙ k), g) (u .0), u .1)
 
 -- ---- a field
 

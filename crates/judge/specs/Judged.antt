@@ -13,7 +13,7 @@ use Rattle.text.specs.declared.Said.the-variants as S
 use Rattle.text.specs.declared.FieldJudged.{FieldJudged}
 use Rattle.text.specs.declared.FieldJudged.the-variants as J
 use Rattle.text.specs.Strings.{malformed, readAt, readBytes}
-use Rattle.text.specs.Describing.{Saying, nothing, boolean, number, string, Judging}
+use Rattle.text.specs.Describing.{Saying, nothing, boolean, number, string, uses, Judging}
 use Rattle.text.specs.Compiling.{textNumber}
 
 -- kinds: 0 absent, 1 present, 2 cancelled
@@ -22,6 +22,7 @@ sayingSaid t S.Nothing = nothing
 sayingSaid t (S.Boolean q k) = boolean q (stateOf k tt)
 sayingSaid t (S.Number q k v) = number q (stateOf k v)
 sayingSaid t (S.String q k i n) = string q (stateOf k (readBytes (readAt t i)))
+sayingSaid t (S.Use i n) = uses (readBytes (readAt t i))
 
 -- p is the field's first byte
 abbrev pub saysJudged : List ℕ → ℕ → FieldJudged → Answer Judging
@@ -39,6 +40,7 @@ SaidIn e t S.Nothing = Unit {0}
 SaidIn e t (S.Boolean q k) = q .0 < e .booleans
 SaidIn e t (S.Number q k v) = q .0 < e .numbers
 SaidIn e t (S.String q k i n) = (q .0 < e .strings) × (k ≡ 1 → StandsAt t i n × (n ≤ contentMost))
+SaidIn e t (S.Use i n) = StandsAt t i n × (n ≤ contentMost)
 
 abbrev pub JudgedIn : Edition → List ℕ → FieldJudged → Type 0
 JudgedIn e t (J.Said s next) = SaidIn e t s

@@ -12,7 +12,7 @@ use Rattle.names.proofs.LookupLaws.{FoundIn}
 use Rattle.text.specs.declared.FieldForm.{FieldForm}
 use Rattle.text.specs.declared.FieldForm.the-variants as F
 use Rattle.text.specs.declared.FieldJudged.{FieldJudged}
-use Rattle.text.specs.Describing.{Saying, Judging, sayingOf, namedSaying}
+use Rattle.text.specs.Describing.{Saying, Judging, sayingOf, useBy, namedSaying}
 use Rattle.judge.specs.Judged.{StandsAt, saysJudged, JudgedIn}
 
 -- the answer on a field that ends before the place next
@@ -34,11 +34,17 @@ Judges found form next r =
     (e : Edition) (t : List ℕ) (p : ℕ) → FoundIn e found → FormIn t form
     → (saysJudged t p r ≡ to next (sayingOf t p form found)) × JudgedIn e t r
 
+-- the same under the name `use`
+abbrev pub JudgesUse : FieldForm → ℕ → FieldJudged → Type 0
+JudgesUse form next r =
+    (e : Edition) (t : List ℕ) (p : ℕ) → FormIn t form
+    → (saysJudged t p r ≡ to next (useBy t p form)) × JudgedIn e t r
+
 -- the same under a name
 abbrev pub JudgesNamed : Edition → List ℕ → FieldForm → ℕ → FieldJudged → Type 0
 JudgesNamed e name form next r =
     (t : List ℕ) (p : ℕ) → FormIn t form → (saysJudged t p r ≡ to next (namedSaying e t p name form)) × JudgedIn e t r
 
 -- the same under a name that an edition doesn't know, for every such edition
-abbrev pub JudgesUnknown : List ℕ → FieldForm → FieldJudged → Type 0
-JudgesUnknown name form r = (e : Edition) (next : ℕ) → lookingUp e name ≡ N.Unknown → JudgesNamed e name form next r
+abbrev pub JudgesUnknown : List ℕ → FieldForm → ℕ → FieldJudged → Type 0
+JudgesUnknown name form next r = (e : Edition) → lookingUp e name ≡ N.Unknown → JudgesNamed e name form next r

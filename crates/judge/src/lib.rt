@@ -6,9 +6,9 @@ ghost use lib.ListN.{length};
 ghost use Rattle.names.specs.Names.{ascii};
 ghost use Rattle.names.specs.Lookup.{sameBytes};
 ghost use Rattle.names.specs.declared.Found.the-variants as Capability;
-ghost use Rattle.text.specs.Describing.{isUse, judging};
+ghost use Rattle.text.specs.Describing.{judging};
 ghost use Rattle.judge.specs.Judged.{saysJudged, JudgedIn};
-ghost use Rattle.judge.specs.Kinds.{Judges, JudgesNamed, JudgesUnknown};
+ghost use Rattle.judge.specs.Kinds.{Judges, JudgesUse, JudgesNamed, JudgesUnknown};
 use edition::Edition;
 use edition::Place;
 use entry::CANCELLED;
@@ -33,19 +33,6 @@ fn is_use(name: &[u8]) -> bool
         }
     }
     false
-}
-
-// The field is `use=` and a string.
-fn is_use_field(name: &[u8], form: FieldForm) -> bool
-    ensures { λ r. ⌜ r ≡ isUse (now (name .entry)) form ⌝ }
-{
-    match form {
-        FieldForm::Boolean => false,
-        FieldForm::Cancelled => false,
-        FieldForm::Number(_) => false,
-        FieldForm::LargeNumber => false,
-        FieldForm::String(_, _) => is_use(name),
-    }
 }
 
 // What a form says of a boolean; next is the place past the field.
@@ -92,12 +79,30 @@ fn string_by(place: Place, form: FieldForm, next: usize) -> FieldJudged
     }
 }
 
-// A field whose name means no capability of the edition: `use=`, or an unknown name.
-fn judge_unknown(name: &[u8], form: FieldForm) -> FieldJudged
-    ensures { λ r. ⌜ (JudgesUnknown (now (name .entry)) form r) ⌝ }
+// What a form says under the name `use`.
+fn use_by(form: FieldForm, next: usize) -> FieldJudged
+    ensures { λ r. ⌜ (JudgesUse form next r) ⌝ }
 {
-    if is_use_field(name, form) {
-        return FieldJudged::Refused(TextRefusal::Use);
+    match form {
+        FieldForm::Boolean => FieldJudged::Refused(TextRefusal::Unknown),
+        FieldForm::Cancelled => FieldJudged::Refused(TextRefusal::Unknown),
+        FieldForm::Number(_) => FieldJudged::Refused(TextRefusal::Unknown),
+        FieldForm::LargeNumber => FieldJudged::Refused(TextRefusal::Unknown),
+        FieldForm::String(i, n) => {
+            if CONTENT_MOST < n {
+                return FieldJudged::Refused(TextRefusal::Limit);
+            }
+            FieldJudged::Said(Said::Use(i, n), next)
+        }
+    }
+}
+
+// A field whose name means no capability of the edition: `use`, or an unknown name.
+fn judge_unknown(name: &[u8], form: FieldForm, next: usize) -> FieldJudged
+    ensures { λ r. ⌜ (JudgesUnknown (now (name .entry)) form next r) ⌝ }
+{
+    if is_use(name) {
+        return use_by(form, next);
     }
     FieldJudged::Refused(TextRefusal::Unknown)
 }
@@ -110,7 +115,7 @@ fn judge_named(name: &[u8], form: FieldForm, next: usize, edition: Edition) -> F
         Found::Boolean(place) => boolean_by(place, form, next),
         Found::Number(place) => number_by(place, form, next),
         Found::String(place) => string_by(place, form, next),
-        Found::Unknown => judge_unknown(name, form),
+        Found::Unknown => judge_unknown(name, form, next),
     }
 }
 

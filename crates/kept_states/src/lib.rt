@@ -103,5 +103,6 @@ pub fn keep(
             start,
             size,
         ),
+        Said::Use(_, _) => {}
     }
 }

@@ -103,15 +103,17 @@ pub fn of_merged(answer: Merged) -> u8
     }
 }
 
-// A text's refusal at a field, at the header or for its names' total.
+// A text's refusal: of a header, a field, a names' total, the wanted name or a use.
 pub fn of_text(why: TextRefusal) -> u8
     ensures { λ r. ⌜ r ≡ textNumber why ⌝ }
 {
     match why {
         TextRefusal::Malformed => 10,
         TextRefusal::Unknown => 11,
-        TextRefusal::Use => 12,
         TextRefusal::Limit => 13,
+        TextRefusal::NotFound => 18,
+        TextRefusal::Circular => 19,
+        TextRefusal::NinthUse => 20,
     }
 }
 

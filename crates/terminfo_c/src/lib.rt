@@ -8,6 +8,7 @@ ghost use Rattle.entry.specs.Asking.{opening, askingNames};
 ghost use Rattle.entry.specs.Handed.{handed};
 ghost use Rattle.entry.specs.Merging.{merging};
 ghost use Rattle.entry.specs.Writing.{writing};
+ghost use Rattle.text.specs.Building.{first, named};
 ghost use Rattle.text.specs.Compiling.{compiling};
 ghost use Rattle.expansion.specs.Expanding.{expanding};
 ghost use Rattle.c_numbers.specs.Numbers.{numbered, none, partCode, openingArray};
@@ -278,19 +279,45 @@ pub extern "C" fn terminfo_merge(
     c_numbers::merged_number(m)
 }
 
-// Compiles a text: the file's length, or the refusal.
+// Compiles the description of a text that has the wanted name: the file's length, or the refusal.
 #[no_mangle]
 pub extern "C" fn terminfo_compile(
     text: &[u8],
+    wanted: &[u8],
     booleans: usize,
     numbers: usize,
     strings: usize,
     buffer: &mut [u8],
 ) -> u64
     ensures { λ r. ⌜ FileNumber (compiling (edition booleans numbers strings) (now (text .entry))
-        (length (now (buffer .entry)))) (now (buffer .entry)) (now (buffer .exit)) r ⌝ }
+        (named (now (wanted .entry))) (length (now (buffer .entry)))) (now (buffer .entry)) (now (buffer .exit)) r ⌝ }
 {
     let c = compile::compile(
+        Edition {
+            booleans,
+            numbers,
+            strings,
+        },
+        text,
+        wanted,
+        buffer,
+    );
+    c_numbers::compiled_number(c)
+}
+
+// Compiles a text's first description: the file's length, or the refusal.
+#[no_mangle]
+pub extern "C" fn terminfo_compile_first(
+    text: &[u8],
+    booleans: usize,
+    numbers: usize,
+    strings: usize,
+    buffer: &mut [u8],
+) -> u64
+    ensures { λ r. ⌜ FileNumber (compiling (edition booleans numbers strings) (now (text .entry)) first
+        (length (now (buffer .entry)))) (now (buffer .entry)) (now (buffer .exit)) r ⌝ }
+{
+    let c = compile::compile_first(
         Edition {
             booleans,
             numbers,

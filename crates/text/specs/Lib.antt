@@ -5,4 +5,5 @@ pub mod Lines
 pub mod Fields
 pub mod Heading
 pub mod Describing
+pub mod Building
 pub mod Compiling

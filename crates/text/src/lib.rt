@@ -4,6 +4,9 @@ use edition::Place;
 // A text's most bytes.
 pub const TEXT_MOST: usize = 16384;
 
+// A text's most descriptions.
+pub const DESCRIPTIONS_MOST: usize = 64;
+
 // An alias's most bytes.
 pub const ALIAS_MOST: usize = 14;
 
@@ -107,16 +110,20 @@ pub enum Header {
     LongAlias,
 }
 
-// Why a text is refused at a field: document 01's numbers 10 to 13.
+// Why a text is refused at a place: document 01's numbers 10, 11 and 13, document 02's 18 to 20.
 pub enum TextRefusal {
     // 10: malformed text
     Malformed,
     // 11: unknown name, or wrong kind
     Unknown,
-    // 12: `use=`
-    Use,
     // 13: past a limit
     Limit,
+    // 18: no description has the name
+    NotFound,
+    // 19: a chain of uses comes back to a description that is being worked on
+    Circular,
+    // 20: the ninth use of a chain
+    NinthUse,
 }
 
 // What a field says, as the writer takes it: a capability's place, its kind (0 absent, 1 present, 2 cancelled) and
@@ -128,6 +135,8 @@ pub enum Said {
     Number(Place, u8, u32),
     // where a present string starts in the text, and how many bytes it stands for
     String(Place, u8, usize, usize),
+    // where the name of a used description starts in the text, and how many bytes it stands for
+    Use(usize, usize),
 }
 
 // What judging a field answers.
@@ -145,7 +154,8 @@ pub enum Compiled {
     Edition,
     // 1: the text is longer than 16,384 bytes
     Length,
-    // 10 to 13, with the field's first byte, 0 for the header and the names' total
+    // 10, 11, 13 and 18 to 20, with the field's first byte; a header's own for its refusals and its names' total, 0 for
+    // the text's first header and for the wanted name
     Refused(TextRefusal, usize),
     // 9: the file would be longer than 4,096 bytes
     Size,

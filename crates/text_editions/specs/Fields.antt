@@ -1,28 +1,31 @@
 -- The fields of a text in two editions: what they say in one, they say in a larger one.
 -- Assumes nothing.
-use mathlib.Core.Path.{_≡_, refl, sym, ap, _∙_, subst}
+use mathlib.Core.Path.{_≡_, sym, ap, _∙_, subst}
 use mathlib.Core.Bool.{Bool, true, false}
 use mathlib.Core.List.{List, [], _∷_}
-use mathlib.Core.Logic.{_⊎_, inl, inr}
-use Prim.Native.Nat.{ℕ, _-_}
-use lib.ListN.{take, drop}
+use mathlib.Core.Logic.{inl, inr}
+use Prim.Native.Nat.{ℕ}
+use lib.Dec.{leb}
 use Rattle.base.specs.If.{if_then_else_}
 use Rattle.base.specs.Answer.{Answer, refused, gives, mapAnswer}
 use Rattle.base.specs.Tabulate.{Each}
 use Rattle.edition.specs.declared.Edition.{Edition}
 use Rattle.edition.specs.Edition.{NoMore}
+use Rattle.entry.specs.Limits.{contentMost}
 use Rattle.names.specs.declared.Found.{Found}
 use Rattle.names.specs.declared.Found.the-variants as N
-use Rattle.names.specs.Lookup.{lookingUp}
+use Rattle.names.specs.Names.{ascii}
+use Rattle.names.specs.Lookup.{sameBytes, lookingUp}
 use Rattle.names.proofs.LookupLaws.{FoundIn, found-in}
 use Rattle.names.proofs.Editions.{larger-means}
 use Rattle.text.specs.declared.FieldForm.{FieldForm}
 use Rattle.text.specs.declared.FieldForm.the-variants as F
-use Rattle.text.specs.Describing.{Saying, nothing, boolean, number, string, booleanBy, numberBy, stringBy, sayingOf}
-use Rattle.text.specs.Describing.{isUse, namedSaying, Judging, judgingOf, judging, SayingAt, FieldsRead, sayingsRead}
-use Rattle.text.specs.Describing.{sayingsFrom}
+use Rattle.text.specs.Strings.{readAt, readBytes}
+use Rattle.text.specs.Describing.{Saying, nothing, boolean, number, string, uses, booleanBy, numberBy, stringBy}
+use Rattle.text.specs.Describing.{sayingOf, useBy, namedSaying, Judging, judgingOf, judging, SayingAt, Fields}
+use Rattle.text.specs.Describing.{sayingsRead, sayingsFrom}
 use Rattle.text_laws.specs.JudgingLaws.{refused-gives, given-is, judged-field}
-use Rattle.text_laws.specs.SayingsLaws.{read-end, read-field, sayings-ind, SaidIn, sayings-said}
+use Rattle.text_laws.specs.SayingsLaws.{read-end, read-column, read-field, sayings-ind, SaidIn, sayings-said}
 use Rattle.text_editions.specs.Alike.{Known}
 
 -- ---- what a field says is about a place that the edition knows
@@ -40,24 +43,36 @@ found-known e t p f (N.Number q) k s w = known-if e (numberBy p f) (number q) (�
 found-known e t p f (N.String q) k s w = known-if e (stringBy t p f) (string q) (λ x. k) s w
 found-known e t p f N.Unknown k s w = refused-gives w
 
+-- a use is about no place
+use-known : (e : Edition) (t : List ℕ) (p : ℕ) (f : FieldForm) (s : Saying) → useBy t p f ≡ gives s → Known e s
+use-known e t p F.Boolean s w = refused-gives w
+use-known e t p F.Cancelled s w = refused-gives w
+use-known e t p (F.Number v) s w = refused-gives w
+use-known e t p F.LargeNumber s w = refused-gives w
+use-known e t p (F.String i n) s w = by-length (leb n contentMost) w
+  where
+    by-length : (b : Bool) → (if b then gives (uses (readBytes (readAt t i))) else refused 13 (p ∷ [])) ≡ gives s
+        → Known e s
+    by-length true u = subst (Known e) (given-is u) tt
+    by-length false u = refused-gives u
+
 module _ (e : Edition) (t : List ℕ) (p : ℕ) (name : List ℕ) (f : FieldForm) (s : Saying) where
   named-known : namedSaying e t p name f ≡ gives s → Known e s
   unfolding namedSaying
-  named-known w = by-use (isUse name f) w
+  named-known w = by-use (sameBytes name (ascii "use")) w
     where
-      by-use : (b : Bool) → (if b then refused 12 (p ∷ []) else sayingOf t p f (lookingUp e name)) ≡ gives s
-          → Known e s
-      by-use true u = refused-gives u
+      by-use : (b : Bool) → (if b then useBy t p f else sayingOf t p f (lookingUp e name)) ≡ gives s → Known e s
+      by-use true u = use-known e t p f s u
       by-use false u = found-known e t p f (lookingUp e name) (found-in e name) s u
 
   -- a larger edition gives the same
   named-larger : (E : Edition) → NoMore e E → namedSaying e t p name f ≡ gives s → namedSaying E t p name f ≡ gives s
   unfolding namedSaying sayingOf
-  named-larger E m w = by-use (isUse name f) w
+  named-larger E m w = by-use (sameBytes name (ascii "use")) w
     where
-      by-use : (b : Bool) → (if b then refused 12 (p ∷ []) else sayingOf t p f (lookingUp e name)) ≡ gives s
-          → (if b then refused 12 (p ∷ []) else sayingOf t p f (lookingUp E name)) ≡ gives s
-      by-use true u = refused-gives u
+      by-use : (b : Bool) → (if b then useBy t p f else sayingOf t p f (lookingUp e name)) ≡ gives s
+          → (if b then useBy t p f else sayingOf t p f (lookingUp E name)) ≡ gives s
+      by-use true u = u
       by-use false u =
           elim (larger-means e E m name) [
             | inl q ↦ refused-gives (sym (ap (sayingOf t p f) q) ∙ u)
@@ -98,17 +113,17 @@ said-in-known e t (s ∷ ss) h =
     let j : Judging = record { saying = s .saying; next = k .next } in
     (judged-known e t (s .place) j (k .judged), said-in-known e t ss (h .1))
 
-pub sayings-known : (e : Edition) (t : List ℕ) (i : ℕ) (ss : List SayingAt) → sayingsFrom e t i ≡ gives ss
-    → Each (λ s. Known e (s .saying)) ss
-sayings-known e t i ss w = said-in-known e t ss (sayings-said e t i ss w)
+pub sayings-known : (e : Edition) (t : List ℕ) (i : ℕ) (f : Fields) → sayingsFrom e t i ≡ gives f
+    → Each (λ s. Known e (s .saying)) (f .sayings)
+sayings-known e t i f w = said-in-known e t (f .sayings) (sayings-said e t i f w)
 
-pub sayings-larger : (e E : Edition) → NoMore e E → (t : List ℕ) (i : ℕ) (ss : List SayingAt)
-    → sayingsFrom e t i ≡ gives ss → sayingsFrom E t i ≡ gives ss
-sayings-larger e E m t i ss u =
+pub sayings-larger : (e E : Edition) → NoMore e E → (t : List ℕ) (i : ℕ) (f : Fields) → sayingsFrom e t i ≡ gives f
+    → sayingsFrom E t i ≡ gives f
+sayings-larger e E m t i f u =
     sayings-ind e t
-    (λ r a. (ss : List SayingAt) → a ≡ gives ss → sayingsRead E t r ≡ gives ss)
-    (λ r q ss w. read-end E t r q ∙ w)
-    (λ r p q ss w. refused-gives w)
-    (λ r p n v q k ss w. refused-gives w)
-    (λ r p j a q k rest ss w. read-field E t r p j q (judged-larger e E m t p j k) ∙ rest ss w)
-    (record { at = i; sayings = [] }) ss u
+    (λ r a. (f : Fields) → a ≡ gives f → sayingsRead E t r ≡ gives f)
+    (λ r q f w. read-end E t r q ∙ w)
+    (λ r p q f w. read-column E t r p q ∙ w)
+    (λ r p n v q k f w. refused-gives w)
+    (λ r p j a q k rest f w. read-field E t r p j q (judged-larger e E m t p j k) ∙ rest f w)
+    (record { at = i; sayings = [] }) f u

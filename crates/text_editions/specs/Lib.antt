@@ -1,3 +1,5 @@
 pub mod Alike
 pub mod Fields
+pub mod Descriptions
+pub mod Refusals
 pub mod Editions

@@ -15,7 +15,8 @@ use Rattle.entry.specs.Merging.{over}
 use Rattle.entry_laws.specs.Sound.{NumberFits, ContentFree}
 use Rattle.text.specs.declared.Line.the-variants.{End, Column, Indented}
 use Rattle.text.specs.Lines.{nextAt}
-use Rattle.text.specs.Describing.{Saying, nothing, boolean, number, string, Judging, judging, SayingAt, sayingsFrom}
+use Rattle.text.specs.Describing.{Saying, nothing, boolean, number, string, uses}
+use Rattle.text.specs.Describing.{Judging, judging, SayingAt, Fields, fieldsTo, sayingsFrom}
 use Rattle.text.specs.Describing.{standing, with-saying, described, bare, describedFrom}
 use Rattle.text_laws.specs.JudgingLaws.{refused-gives, given-is, Fits, judged-fits}
 use Rattle.text_laws.specs.SayingsLaws.{sayings-end, sayings-column, sayings-bad, sayings-field}
@@ -25,28 +26,32 @@ use Rattle.entry_laws.specs.Merge.{over-has}
 -- ---- reading and adding what is said, field by field
 
 module _ (e : Edition) (t : List ℕ) (i : ℕ) (x : Entry) where
+  abbrev adding : Entry → Answer Fields → Answer Entry
+  adding y a = mapAnswer (λ (f : Fields). described y (f .sayings)) a
+
   pub described-end : nextAt t i ≡ End → describedFrom e t i x ≡ gives x
   unfolding described
-  described-end q = ap (mapAnswer (described x)) (sayings-end e t i q)
+  described-end q = ap (adding x) (sayings-end e t i q)
 
-  pub described-column : (p : ℕ) → nextAt t i ≡ Column p → describedFrom e t i x ≡ refused 10 (p ∷ [])
-  described-column p q = ap (mapAnswer (described x)) (sayings-column e t i p q)
+  pub described-column : (p : ℕ) → nextAt t i ≡ Column p → describedFrom e t i x ≡ gives x
+  unfolding described
+  described-column p q = ap (adding x) (sayings-column e t i p q)
 
   pub described-bad : (p n : ℕ) (v : List ℕ) → nextAt t i ≡ Indented p → judging e t p ≡ refused n v
       → describedFrom e t i x ≡ refused n v
-  described-bad p n v q w = ap (mapAnswer (described x)) (sayings-bad e t i p n v q w)
+  described-bad p n v q w = ap (adding x) (sayings-bad e t i p n v q w)
 
   pub described-field : (p : ℕ) (j : Judging) → nextAt t i ≡ Indented p → judging e t p ≡ gives j
       → describedFrom e t i x ≡ describedFrom e t (j .next) (with-saying x (j .saying))
   unfolding described
-  described-field p j q w =
-      ap (mapAnswer (described x)) (sayings-field e t i p j q w) ∙ first (sayingsFrom e t (j .next))
+  described-field p j q w = ap (adding x) (sayings-field e t i p j q w) ∙ first (sayingsFrom e t (j .next))
     where
-      first : (a : Answer (List SayingAt))
-          → mapAnswer (described x) (mapAnswer (λ ss. record { place = p; saying = j .saying } ∷ ss) a)
-          ≡ mapAnswer (described (with-saying x (j .saying))) a
+      first : (a : Answer Fields)
+          → adding x (mapAnswer (λ (f : Fields). fieldsTo (record { place = p; saying = j .saying } ∷ f .sayings)
+          (f .behind)) a)
+          ≡ adding (with-saying x (j .saying)) a
       first (refused n v) = refl
-      first (gives ss) = refl
+      first (gives f) = refl
 
 -- ---- the entry has a written form, but for its size and its names' total
 
@@ -61,7 +66,7 @@ each-set P [] p v h w = tt
 each-set P (x ∷ xs) zero v h w = (w, h .1)
 each-set P (x ∷ xs) (suc p) v h w = (h .0, each-set P xs p v (h .1) w)
 
-each-getD : {A : Type 0} (P : A → Type 0) (xs : List A) (p : ℕ) (d : A) → Each P xs → P d → P (getD xs p d)
+pub each-getD : {A : Type 0} (P : A → Type 0) (xs : List A) (p : ℕ) (d : A) → Each P xs → P d → P (getD xs p d)
 each-getD P [] p d h w = w
 each-getD P (x ∷ xs) zero d h w = h .0
 each-getD P (x ∷ xs) (suc p) d h w = each-getD P xs p d (h .1) w
@@ -79,6 +84,7 @@ length-stands xs q s = length-set xs (q .0) _
 said-sound : (e : Edition) (x : Entry) (s : Saying) → Sound-states e x → Fits s → Sound-states e (with-saying x s)
 unfolding with-saying
 said-sound e x nothing h f = h
+said-sound e x (uses n) h f = h
 said-sound e x (boolean q s) h f =
     record {
       edition =
@@ -110,6 +116,7 @@ said-sound e x (string q s) h f =
 said-names : (x : Entry) (s : Saying) → with-saying x s .names ≡ x .names
 unfolding with-saying
 said-names x nothing = refl
+said-names x (uses n) = refl
 said-names x (boolean q s) = refl
 said-names x (number q s) = refl
 said-names x (string q s) = refl
@@ -138,12 +145,13 @@ pub fields-sound : (e : Edition) (t : List ℕ) (i : ℕ) (x y : Entry) → Soun
     → Sound-states e y × (y .names ≡ x .names)
 fields-sound e t i x y h w = by-answer (sayingsFrom e t i) refl w
   where
-    by-answer : (a : Answer (List SayingAt)) → sayingsFrom e t i ≡ a → mapAnswer (described x) a ≡ gives y
+    by-answer : (a : Answer Fields) → sayingsFrom e t i ≡ a
+        → mapAnswer (λ (f : Fields). described x (f .sayings)) a ≡ gives y
         → Sound-states e y × (y .names ≡ x .names)
     by-answer (refused n v) q u = refused-gives u
-    by-answer (gives ss) q u =
+    by-answer (gives f) q u =
         subst (λ (z : Entry). Sound-states e z × (z .names ≡ x .names)) (given-is u)
-        (described-sound e x ss h (said-fit e t ss (sayings-said e t i ss q)))
+        (described-sound e x (f .sayings) h (said-fit e t (f .sayings) (sayings-said e t i f q)))
 
 each-replicate : {A : Type 0} (P : A → Type 0) (n : ℕ) (v : A) → P v → Each P (replicate n v)
 each-replicate P zero v w = tt

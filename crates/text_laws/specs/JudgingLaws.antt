@@ -16,15 +16,16 @@ use Rattle.entry.specs.State.{present}
 use Rattle.entry_laws.specs.Sound.{NumberFits, ContentFree}
 use Rattle.names.specs.declared.Found.{Found}
 use Rattle.names.specs.declared.Found.the-variants as N
-use Rattle.names.specs.Lookup.{lookingUp}
+use Rattle.names.specs.Names.{ascii}
+use Rattle.names.specs.Lookup.{sameBytes, lookingUp}
 use Rattle.text.specs.declared.FieldForm.{FieldForm}
 use Rattle.text.specs.declared.FieldForm.the-variants as F
 use Rattle.text.specs.declared.Field.{Field}
 use Rattle.text.specs.declared.Field.the-variants as G
 use Rattle.text.specs.Strings.{readAt, readBytes}
 use Rattle.text.specs.Fields.{fieldAt}
-use Rattle.text.specs.Describing.{Saying, nothing, boolean, number, string, booleanBy, numberBy, stringBy}
-use Rattle.text.specs.Describing.{sayingOf, isUse, namedSaying, Judging, judgingOf, judging}
+use Rattle.text.specs.Describing.{Saying, nothing, boolean, number, string, uses, booleanBy, numberBy, stringBy}
+use Rattle.text.specs.Describing.{sayingOf, useBy, namedSaying, Judging, judgingOf, judging}
 use Rattle.text_laws.specs.Reads.{read-free}
 use Rattle.text_laws.specs.FieldLaws.{field-number}
 
@@ -77,6 +78,7 @@ Fits nothing = Unit {0}
 Fits (boolean q s) = Unit {0}
 Fits (number q s) = NumberFits s
 Fits (string q s) = ContentFree s
+Fits (uses n) = Unit {0}
 
 FormFits : FieldForm → Type 0
 FormFits F.Boolean = Unit {0}
@@ -122,14 +124,25 @@ module _ (t : List ℕ) (p : ℕ) where
   found-fits f h (N.String q) s w = string-fits q f s w
   found-fits f h N.Unknown s w = refused-gives w
 
+  use-fits : (f : FieldForm) (s : Saying) → useBy t p f ≡ gives s → Fits s
+  use-fits F.Boolean s w = refused-gives w
+  use-fits F.Cancelled s w = refused-gives w
+  use-fits (F.Number v) s w = refused-gives w
+  use-fits F.LargeNumber s w = refused-gives w
+  use-fits (F.String i n) s w = by-test (leb n contentMost) w
+    where
+      by-test : (b : Bool) → (if b then gives (uses (readBytes (readAt t i))) else refused 13 (p ∷ [])) ≡ gives s → Fits s
+      by-test true u = subst Fits (given-is u) tt
+      by-test false u = refused-gives u
+
   says-fits : (e : Edition) (dropped : Bool) (name : List ℕ) (f : FieldForm) → FormFits f → (s : Saying)
       → (if dropped then gives nothing else namedSaying e t p name f) ≡ gives s → Fits s
   unfolding namedSaying
   says-fits e true name f h s w = subst Fits (given-is w) tt
-  says-fits e false name f h s w = by-use (isUse name f) w
+  says-fits e false name f h s w = by-use (sameBytes name (ascii "use")) w
     where
-      by-use : (b : Bool) → (if b then refused 12 (p ∷ []) else sayingOf t p f (lookingUp e name)) ≡ gives s → Fits s
-      by-use true u = refused-gives u
+      by-use : (b : Bool) → (if b then useBy t p f else sayingOf t p f (lookingUp e name)) ≡ gives s → Fits s
+      by-use true u = use-fits f s u
       by-use false u = found-fits f h (lookingUp e name) s u
 
 form-fits : (t : List ℕ) (p : ℕ) (dropped : Bool) (i k : ℕ) (f : FieldForm) (next : ℕ)

@@ -6,6 +6,5 @@ pub mod FieldLaws
 pub mod HeadingLaws
 pub mod JudgingLaws
 pub mod SayingsLaws
+pub mod UseLaws
 pub mod DescribingLaws
-pub mod Compiled
-pub mod Values

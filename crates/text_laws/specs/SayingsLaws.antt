@@ -15,7 +15,7 @@ use Rattle.text.specs.declared.Line.{Line}
 use Rattle.text.specs.declared.Line.the-variants.{End, Column, Indented}
 use Rattle.text.specs.Lines.{nextAt}
 use Rattle.text.specs.Describing.{Judging, judging, SayingAt, FieldsRead, withField, fieldTurn, lineTurn, sayingsTurn}
-use Rattle.text.specs.Describing.{sayingsRead, sayingsFrom}
+use Rattle.text.specs.Describing.{Fields, fieldsTo, sayingsRead, sayingsFrom}
 use Rattle.text_laws.specs.LineLaws.{LineAfter, next-after}
 use Rattle.text_laws.specs.FieldLaws.{field-after}
 use Rattle.text_laws.specs.JudgingLaws.{refused-gives, given-is, judged-field}
@@ -65,16 +65,18 @@ module _ (e : Edition) (t : List ℕ) where
   -- ---- reading, by the line at its place
 
   module _ (r : FieldsRead) where
-    pub read-end : nextAt t (r .at) ≡ End → sayingsRead e t r ≡ gives (r .sayings)
+    pub read-end : nextAt t (r .at) ≡ End → sayingsRead e t r ≡ gives (fieldsTo (r .sayings) End)
     unfolding sayingsRead
-    read-end q = loop-stop _ (sayingsTurn e t) falls (refused 0 []) r (gives (r .sayings)) (turn-line r End q)
+    read-end q =
+        loop-stop _ (sayingsTurn e t) falls (refused 0 []) r (gives (fieldsTo (r .sayings) End)) (turn-line r End q)
 
-    read-column : (p : ℕ) → nextAt t (r .at) ≡ Column p → sayingsRead e t r ≡ refused 10 (p ∷ [])
+    pub read-column : (p : ℕ) → nextAt t (r .at) ≡ Column p → sayingsRead e t r ≡ gives (fieldsTo (r .sayings) (Column p))
     unfolding sayingsRead
     read-column p q =
-        loop-stop _ (sayingsTurn e t) falls (refused 0 []) r (refused 10 (p ∷ [])) (turn-line r (Column p) q)
+        loop-stop _ (sayingsTurn e t) falls (refused 0 []) r (gives (fieldsTo (r .sayings) (Column p)))
+        (turn-line r (Column p) q)
 
-    read-bad : (p n : ℕ) (v : List ℕ) → nextAt t (r .at) ≡ Indented p → judging e t p ≡ refused n v
+    pub read-bad : (p n : ℕ) (v : List ℕ) → nextAt t (r .at) ≡ Indented p → judging e t p ≡ refused n v
         → sayingsRead e t r ≡ refused n v
     unfolding sayingsRead
     read-bad p n v q w =
@@ -86,15 +88,16 @@ module _ (e : Edition) (t : List ℕ) where
     read-field p j q w =
         loop-go _ (sayingsTurn e t) falls (refused 0 []) r (withField (r .sayings) p j) (turn-field r p (gives j) q w)
 
-  -- what holds where the text ends or a field is bad, and before a field if after it, holds of reading
-  module _ (Q : FieldsRead → Answer (List SayingAt) → Type 0)
-      (at-end : (r : FieldsRead) → nextAt t (r .at) ≡ End → Q r (gives (r .sayings)))
-      (at-column : (r : FieldsRead) (p : ℕ) → nextAt t (r .at) ≡ Column p → Q r (refused 10 (p ∷ [])))
+  -- what holds where the fields end or one is bad, and before a field if after it, holds of reading
+  module _ (Q : FieldsRead → Answer Fields → Type 0)
+      (at-end : (r : FieldsRead) → nextAt t (r .at) ≡ End → Q r (gives (fieldsTo (r .sayings) End)))
+      (at-column : (r : FieldsRead) (p : ℕ) → nextAt t (r .at) ≡ Column p
+      → Q r (gives (fieldsTo (r .sayings) (Column p))))
       (at-bad : (r : FieldsRead) (p n : ℕ) (v : List ℕ) → nextAt t (r .at) ≡ Indented p → judging e t p ≡ refused n v
       → Q r (refused n v))
-      (at-field : (r : FieldsRead) (p : ℕ) (j : Judging) (a : Answer (List SayingAt)) → nextAt t (r .at) ≡ Indented p
+      (at-field : (r : FieldsRead) (p : ℕ) (j : Judging) (a : Answer Fields) → nextAt t (r .at) ≡ Indented p
       → judging e t p ≡ gives j → Q (withField (r .sayings) p j) a → Q r a) where
-    at-stop : (r : FieldsRead) (a : Answer (List SayingAt)) → sayingsTurn e t r ≡ stop a → Q r a
+    at-stop : (r : FieldsRead) (a : Answer Fields) → sayingsTurn e t r ≡ stop a → Q r a
     at-stop r a u = by-line (nextAt t (r .at)) refl
       where
         by-answer : (p : ℕ) → nextAt t (r .at) ≡ Indented p → (b : Answer Judging) → judging e t p ≡ b → Q r a
@@ -107,7 +110,7 @@ module _ (e : Edition) (t : List ℕ) where
         by-line (Column p) q = subst (Q r) (stop-is (sym (turn-line r (Column p) q) ∙ u)) (at-column r p q)
         by-line (Indented p) q = by-answer p q (judging e t p) refl
 
-    at-go : (r r′ : FieldsRead) (a : Answer (List SayingAt)) → sayingsTurn e t r ≡ go r′ → Q r′ a → Q r a
+    at-go : (r r′ : FieldsRead) (a : Answer Fields) → sayingsTurn e t r ≡ go r′ → Q r′ a → Q r a
     at-go r r′ a u h = by-line (nextAt t (r .at)) refl
       where
         by-answer : (p : ℕ) → nextAt t (r .at) ≡ Indented p → (b : Answer Judging) → judging e t p ≡ b → Q r a
@@ -127,19 +130,19 @@ module _ (e : Edition) (t : List ℕ) where
   -- sayings in front of those that are read stay in front
   read-behind : (ss : List SayingAt) (r : FieldsRead)
       → sayingsRead e t (record { at = r .at; sayings = ss ++ r .sayings })
-      ≡ mapAnswer (λ rest. ss ++ rest) (sayingsRead e t r)
+      ≡ mapAnswer (λ (f : Fields). fieldsTo (ss ++ f .sayings) (f .behind)) (sayingsRead e t r)
   read-behind ss =
       sayings-ind
-      (λ r a. sayingsRead e t (behind r) ≡ mapAnswer (λ rest. ss ++ rest) a)
-      (λ r q. read-end (behind r) q)
-      (λ r p q. read-column (behind r) p q)
-      (λ r p n v q w. read-bad (behind r) p n v q w)
-      (λ r p j a q w h. read-field (behind r) p j q w
+      (λ r a. sayingsRead e t (after r) ≡ mapAnswer (λ (f : Fields). fieldsTo (ss ++ f .sayings) (f .behind)) a)
+      (λ r q. read-end (after r) q)
+      (λ r p q. read-column (after r) p q)
+      (λ r p n v q w. read-bad (after r) p n v q w)
+      (λ r p j a q w h. read-field (after r) p j q w
       ∙ ap (λ xs. sayingsRead e t (record { at = j .next; sayings = xs })) (append-assoc ss (r .sayings) _)
       ∙ h)
     where
-      behind : FieldsRead → FieldsRead
-      behind r = record { at = r .at; sayings = ss ++ r .sayings }
+      after : FieldsRead → FieldsRead
+      after r = record { at = r .at; sayings = ss ++ r .sayings }
 
   -- ---- the fields from a place on
 
@@ -147,10 +150,10 @@ module _ (e : Edition) (t : List ℕ) where
     abbrev start : FieldsRead
     start = record { at = i; sayings = [] }
 
-    pub sayings-end : nextAt t i ≡ End → sayingsFrom e t i ≡ gives []
+    pub sayings-end : nextAt t i ≡ End → sayingsFrom e t i ≡ gives (fieldsTo [] End)
     sayings-end q = read-end start q
 
-    pub sayings-column : (p : ℕ) → nextAt t i ≡ Column p → sayingsFrom e t i ≡ refused 10 (p ∷ [])
+    pub sayings-column : (p : ℕ) → nextAt t i ≡ Column p → sayingsFrom e t i ≡ gives (fieldsTo [] (Column p))
     sayings-column p q = read-column start p q
 
     pub sayings-bad : (p n : ℕ) (v : List ℕ) → nextAt t i ≡ Indented p → judging e t p ≡ refused n v
@@ -159,7 +162,8 @@ module _ (e : Edition) (t : List ℕ) where
 
     pub sayings-field : (p : ℕ) (j : Judging) → nextAt t i ≡ Indented p → judging e t p ≡ gives j
         → sayingsFrom e t i
-        ≡ mapAnswer (λ ss. record { place = p; saying = j .saying } ∷ ss) (sayingsFrom e t (j .next))
+        ≡ mapAnswer (λ (f : Fields). fieldsTo (record { place = p; saying = j .saying } ∷ f .sayings) (f .behind))
+        (sayingsFrom e t (j .next))
     sayings-field p j q w =
         read-field start p j q w
         ∙ read-behind (record { place = p; saying = j .saying } ∷ []) (record { at = j .next; sayings = [] })
@@ -175,17 +179,17 @@ each-append : {A : Type 0} (P : A → Type 0) (xs ys : List A) → Each P xs →
 each-append P [] ys h w = w
 each-append P (x ∷ xs) ys h w = (h .0, each-append P xs ys (h .1) w)
 
-pub sayings-said : (e : Edition) (t : List ℕ) (i : ℕ) (ss : List SayingAt) → sayingsFrom e t i ≡ gives ss
-    → Each (SaidIn e t) ss
-sayings-said e t i ss u =
+pub sayings-said : (e : Edition) (t : List ℕ) (i : ℕ) (f : Fields) → sayingsFrom e t i ≡ gives f
+    → Each (SaidIn e t) (f .sayings)
+sayings-said e t i f u =
     sayings-ind e t
-    (λ r a. (ss : List SayingAt) → Each (SaidIn e t) (r .sayings) → a ≡ gives ss → Each (SaidIn e t) ss)
-    (λ r q ss h w. subst (Each (SaidIn e t)) (given-is w) h)
-    (λ r p q ss h w. refused-gives w)
-    (λ r p n v q k ss h w. refused-gives w)
-    (λ r p j a q k rest ss h w.
-    rest ss
+    (λ r a. (f : Fields) → Each (SaidIn e t) (r .sayings) → a ≡ gives f → Each (SaidIn e t) (f .sayings))
+    (λ r q f h w. subst (λ (g : Fields). Each (SaidIn e t) (g .sayings)) (given-is w) h)
+    (λ r p q f h w. subst (λ (g : Fields). Each (SaidIn e t) (g .sayings)) (given-is w) h)
+    (λ r p n v q k f h w. refused-gives w)
+    (λ r p j a q k rest f h w.
+    rest f
     (each-append (SaidIn e t) (r .sayings) _ h
     (record { within = subst (LineAfter t (r .at)) q (next-after t (r .at)) .1; next = j .next; judged = k }, tt))
     w)
-    (record { at = i; sayings = [] }) ss tt u
+    (record { at = i; sayings = [] }) f tt u

@@ -7,6 +7,7 @@ use ti_common::Status;
 use ti_common::words::Task;
 use ti_common::words::Words;
 use ti_options::Outcome;
+use ti_options::OwnOption;
 
 fn describe(words: Words) -> Status {
     ti_common::words::describe(
@@ -50,7 +51,7 @@ fn check_operands(operands: Words, edition: Edition) -> Status {
 }
 
 fn check(words: Words) -> Status {
-    let options = ti_options::take(words, ti_options::NO_FLAG);
+    let options = ti_options::take(words, OwnOption::Nothing);
     let outcome = options.outcome;
     match outcome {
         Outcome::Taken => check_operands(options.words, options.edition),

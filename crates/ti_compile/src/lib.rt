@@ -1,22 +1,34 @@
-// `ti compile [-e EDITION] [FILE] OUT`: compiles source text, through the library only (document 01). Proved: it is
-// safe and ends; a refusal's number is that of text/specs; line and column are those of positions/specs. Assumed: what
-// libc and os say of C.
+// `ti compile [-e EDITION] [-n NAME] [FILE] OUT`: compiles a description of source text, through the library only
+// (documents 01 and 02). Proved: it is safe and ends; `compile_wanted` answers as `compiling` of text/specs says of
+// the text's first description or of the one that has the name; a refusal's number is that of text/specs; line and
+// column are those of positions/specs. Assumed: what libc and os say of C.
 ghost use Prim.Native.Nat.{_≤_};
 ghost use lib.ListN.{length};
+ghost use Rattle.base.specs.Answer.{Leaves};
+ghost use Rattle.io.specs.Counts.{Counts};
+ghost use Rattle.text.specs.Compiling.{compiling, saysCompiled};
 ghost use Rattle.positions.specs.Taken.{textRoom};
+ghost use Rattle.ti_compile.specs.Asked.{asked};
 use edition::Edition;
 use entry::FILE_MOST;
+use positions::Position;
 use text::Compiled;
 use text::TEXT_MOST;
 use text::TextRefusal;
 use ti_common::Status;
 use ti_common::words::Task;
+use ti_common::words::Word;
 use ti_common::words::Words;
+use ti_options::Options;
 use ti_options::Outcome;
+use ti_options::OwnOption;
+use ti_options::Wanted;
 use ti_refusals::refuse;
 
 mod field;
+mod header;
 mod line;
+mod used;
 
 // A text's most bytes and one more, so that a longer text is refused and never cut.
 const TEXT_ROOM: usize = TEXT_MOST + 1;
@@ -24,68 +36,83 @@ const TEXT_ROOM: usize = TEXT_MOST + 1;
 fn describe(words: Words) -> Status {
     ti_common::words::describe(
         words,
-        b"compile [-e EDITION] [FILE] OUT",
-        b"Compiles the description in FILE, or on standard input, to the file OUT, in the second edition, or\n\
-            the one behind -e: 1, 2 or its three counts, as 21,8,138.\n",
+        b"compile [-e EDITION] [-n NAME] [FILE] OUT",
+        b"Compiles a description in FILE, or on standard input, to the file OUT: the first of the text, or the\n\
+            one that has the name behind -n. The edition is the second, or the one behind -e: 1, 2 or its three\n\
+            counts, as 21,8,138.\n",
     )
 }
 
 fn misuse() -> Status {
-    ti_common::words::misuse(b"compile [-e EDITION] [FILE] OUT")
+    ti_common::words::misuse(b"compile [-e EDITION] [-n NAME] [FILE] OUT")
 }
 
-// Says that the header is refused, or the names' total.
-fn refuse_header(source: &[u8], why: TextRefusal, number: u8) -> Status {
-    ti_refusals::begin(source);
-    match why {
-        TextRefusal::Malformed => {
-            ti_common::complain(b": the header is malformed, or there is none");
-        }
-        TextRefusal::Unknown => ti_common::complain(b": the header"),
-        TextRefusal::Use => ti_common::complain(b": the header"),
-        TextRefusal::Limit => {
-            ti_common::complain(b": an alias is longer than 14 bytes, or all names than 127");
-        }
-    }
-    ti_refusals::end_at(number, 0)
-}
-
-// Says that a text is refused at a field, or for its header, and shows the line to a terminal.
-fn refuse_at(
-    source: &[u8],
-    text: &[u8],
-    edition: Edition,
-    why: TextRefusal,
-    place: usize,
-    is_shown: bool,
-) -> Status
-    requires { ⌜ length (now text) ≤ textRoom ⌝ }
-{
-    let number = refusal_numbers::of_text(why);
-    if place == 0 {
-        return refuse_header(source, why, number);
-    }
-    let p = positions::position_of(text, place);
-    ti_refusals::begin(source);
+// Says where a text is refused, by line and column.
+fn complain_position(p: Position) {
     ti_common::complain(b":");
     ti_common::complain_number(p.line);
     ti_common::complain(b":");
     ti_common::complain_number(p.column);
     ti_common::complain(b": ");
-    field::complain_field(text, edition, why, place, p.column);
+}
+
+// Says that a text is refused at a place, where the name is wanted, and shows the line to a terminal.
+fn refuse_at(
+    source: &[u8],
+    text: &[u8],
+    name: &[u8],
+    options: Options,
+    why: TextRefusal,
+    place: usize,
+) -> Status
+    requires { ⌜ length (now text) ≤ textRoom ⌝ }
+{
+    let number = refusal_numbers::of_text(why);
+    ti_refusals::begin(source);
+    if place == 0 {
+        ti_common::complain(b": ");
+        header::complain_first(why, name);
+        return ti_refusals::end_at(number, 0);
+    }
+    let p = positions::position_of(text, place);
+    complain_position(p);
+    if p.column == 1 {
+        header::complain_later(why);
+    } else {
+        field::complain_field(text, options.edition, why, place);
+    }
     let status = ti_refusals::end_at(number, place);
-    if is_shown {
+    let words = options.words;
+    if words.is_terminal {
         line::show(text, place);
     }
     status
 }
 
+// Compiles the description that is wanted: the text's first, or the one that has the name.
+fn compile_wanted(
+    text: &[u8],
+    name: &[u8],
+    wanted: Wanted,
+    edition: Edition,
+    file: &mut [u8],
+) -> Compiled
+    ensures { λ r. ⌜ Leaves (compiling edition (now (text .entry)) (asked wanted (now (name .entry)))
+        (length (now (file .entry)))) (now (file .entry)) (now (file .exit)) (saysCompiled r) ⌝ }
+{
+    match wanted {
+        Wanted::First => compile::compile_first(edition, text, file),
+        Wanted::Named(_) => compile::compile(edition, text, name, file),
+    }
+}
+
 // Compiles the text and saves the file, or says why not.
-fn compile_text(source: &[u8], text: &[u8], out: &[u8], edition: Edition, is_shown: bool) -> Status
+fn compile_text(source: &[u8], text: &[u8], name: &[u8], out: &[u8], options: Options) -> Status
     requires { ⌜ length (now text) ≤ textRoom ⌝ }
 {
     let mut file = [0u8; FILE_MOST];
-    let answer = compile::compile(edition, text, &mut file);
+    let wanted = options.wanted;
+    let answer = compile_wanted(text, name, wanted, options.edition, &mut file);
     let number = refusal_numbers::of_compiled(answer);
     match answer {
         Compiled::File(n) => {
@@ -94,7 +121,7 @@ fn compile_text(source: &[u8], text: &[u8], out: &[u8], edition: Edition, is_sho
         }
         Compiled::Edition => ti_refusals::refuse_edition(),
         Compiled::Length => refuse(source, b"the text is longer than 16,384 bytes", number),
-        Compiled::Refused(why, place) => refuse_at(source, text, edition, why, place, is_shown),
+        Compiled::Refused(why, place) => refuse_at(source, text, name, options, why, place),
         Compiled::Size => refuse(
             source,
             b"the compiled file would be longer than 4,096 bytes",
@@ -105,7 +132,7 @@ fn compile_text(source: &[u8], text: &[u8], out: &[u8], edition: Edition, is_sho
 }
 
 // Reads the text and compiles it.
-fn compile_from(source: &[u8], out: &[u8], edition: Edition, is_shown: bool) -> Status {
+fn compile_from(source: &[u8], name: &[u8], out: &[u8], options: Options) -> Status {
     if !ti_files::save::is_output(out) {
         return Status::Failed;
     }
@@ -115,47 +142,71 @@ fn compile_from(source: &[u8], out: &[u8], edition: Edition, is_shown: bool) -> 
         return Status::Failed;
     }
     let k = ti_common::part(got.length, &text);
-    compile_text(source, &text[..k], out, edition, is_shown)
+    compile_text(source, &text[..k], name, out, options)
 }
 
 // Compiles standard input.
-fn compile_standard(operands: Words, edition: Edition) -> Status {
+fn compile_standard(name: &[u8], options: Options) -> Status {
     let mut out = io::buffer();
-    let named = ti_common::words::operand(operands, 0, &mut out);
+    let named = ti_common::words::operand(options.words, 0, &mut out);
     if !named.ok {
         return Status::Failed;
     }
     let n = named.length;
-    compile_from(b"-", &out[..n], edition, operands.is_terminal)
+    compile_from(b"-", name, &out[..n], options)
 }
 
 // Compiles the file that is named.
-fn compile_named(operands: Words, edition: Edition) -> Status {
+fn compile_named(name: &[u8], options: Options) -> Status {
     let mut source = io::buffer();
     let mut out = io::buffer();
-    let first = ti_common::words::operand(operands, 0, &mut source);
-    let second = ti_common::words::operand(operands, 1, &mut out);
+    let first = ti_common::words::operand(options.words, 0, &mut source);
+    let second = ti_common::words::operand(options.words, 1, &mut out);
     if !(first.ok & second.ok) {
         return Status::Failed;
     }
     let m = first.length;
     let n = second.length;
-    compile_from(&source[..m], &out[..n], edition, operands.is_terminal)
+    compile_from(&source[..m], name, &out[..n], options)
 }
 
-fn compile_operands(operands: Words, edition: Edition) -> Status {
-    match ti_common::words::count(operands) {
-        1 => compile_standard(operands, edition),
-        2 => compile_named(operands, edition),
+fn compile_operands(name: &[u8], options: Options) -> Status {
+    match ti_common::words::count(options.words) {
+        1 => compile_standard(name, options),
+        2 => compile_named(name, options),
         _ => misuse(),
     }
 }
 
+// Puts the name that is wanted at the slice's start; no byte where it is the text's first.
+fn wanted_name(wanted: Wanted, bytes: &mut [u8]) -> Word
+    ensures { λ r. ⌜ Counts (r .length) (now (bytes .exit)) ⌝ }
+{
+    match wanted {
+        Wanted::First => Word {
+            ok: true,
+            length: 0,
+        },
+        Wanted::Named(place) => ti_common::words::word_at(place as usize, bytes),
+    }
+}
+
+fn compile_taken(options: Options) -> Status {
+    let mut name = io::buffer();
+    let wanted = options.wanted;
+    let got = wanted_name(wanted, &mut name);
+    if !got.ok {
+        return Status::Failed;
+    }
+    let n = got.length;
+    compile_operands(&name[..n], options)
+}
+
 fn compile_words(words: Words) -> Status {
-    let options = ti_options::take(words, ti_options::NO_FLAG);
+    let options = ti_options::take(words, OwnOption::Name);
     let outcome = options.outcome;
     match outcome {
-        Outcome::Taken => compile_operands(options.words, options.edition),
+        Outcome::Taken => compile_taken(options),
         Outcome::Wrong => misuse(),
         Outcome::Large => ti_refusals::refuse_edition(),
     }

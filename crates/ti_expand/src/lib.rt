@@ -24,6 +24,7 @@ use ti_common::say_number;
 use ti_common::words::Task;
 use ti_common::words::Words;
 use ti_options::Outcome;
+use ti_options::OwnOption;
 
 mod opened;
 
@@ -302,7 +303,7 @@ fn expand_counted(operands: Words, edition: Edition, is_verbose: bool) -> Status
 }
 
 fn expand_words(words: Words) -> Status {
-    let options = ti_options::take(words, b'v');
+    let options = ti_options::take(words, OwnOption::Flag(b'v'));
     let outcome = options.outcome;
     match outcome {
         Outcome::Taken => expand_counted(options.words, options.edition, options.is_set),

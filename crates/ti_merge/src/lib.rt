@@ -8,6 +8,7 @@ use ti_common::Status;
 use ti_common::words::Task;
 use ti_common::words::Words;
 use ti_options::Outcome;
+use ti_options::OwnOption;
 use ti_refusals::accept;
 
 fn describe(words: Words) -> Status {
@@ -109,7 +110,7 @@ fn merge_operands(operands: Words, edition: Edition) -> Status {
 }
 
 fn merge_words(words: Words) -> Status {
-    let options = ti_options::take(words, ti_options::NO_FLAG);
+    let options = ti_options::take(words, OwnOption::Nothing);
     let outcome = options.outcome;
     match outcome {
         Outcome::Taken => merge_operands(options.words, options.edition),

@@ -1,4 +1,4 @@
-// The options of ti's commands: one flag of a command's own, `-e EDITION` of every command, and `--`, which ends them.
+// The options of ti's commands: `-e EDITION` of every command, one of a command's own, and `--`, which ends them.
 // Proved: the edition given is none that is too large; the one before any -e is the second (`default_edition`); each
 // function is safe and ends. Not stated, and tested: which words stand there. Assumed: what libc and os say of C.
 ghost use mathlib.Core.Path.{_≡_};
@@ -12,20 +12,38 @@ use ti_common::complain;
 use ti_common::output::complain_quoted;
 use ti_common::words::Words;
 
+// The option that a command has of its own.
+pub enum OwnOption {
+    Nothing,
+    // a letter behind `-`
+    Flag(u8),
+    // `-n NAME`
+    Name,
+}
+
 // How the options are.
 pub enum Outcome {
     Taken,
-    // an option that is unknown, or an edition's word that is missing or wrong, which was said
+    // an option that is unknown, an edition's word that is missing or wrong, or a missing name, which was said
     Wrong,
     // the edition is too large, which was not said
     Large,
 }
 
-// What the options are: whether the flag stood among them, the edition, and the words behind them.
+// The description that is wanted.
+pub enum Wanted {
+    // the text's first
+    First,
+    // the one that the word at the place names
+    Named(u16),
+}
+
+// What the options are: whether the flag stood among them, the edition, what is wanted, and the words behind them.
 pub struct Options {
     pub outcome: Outcome,
     pub is_set: bool,
     pub edition: Edition,
+    pub wanted: Wanted,
     pub words: Words,
 }
 
@@ -37,6 +55,8 @@ enum WordKind {
     Flag,
     // `-e`, and the word behind it names the edition
     Edition,
+    // `-n`, and the word behind it is the name
+    Name,
     Unknown,
 }
 
@@ -47,14 +67,13 @@ enum Step {
     Flag,
     // `-e` and its word
     Edition(Edition),
+    // `-n` and its word
+    Name,
     Wrong,
 }
 
 // The most words of options.
 const OPTIONS_END: u16 = 1000;
-
-// No flag: no word holds this byte.
-pub const NO_FLAG: u8 = 0;
 
 // The edition where no -e stands.
 fn default_edition() -> Edition
@@ -63,8 +82,27 @@ fn default_edition() -> Edition
     names::SECOND_EDITION
 }
 
+// What an option of one letter is that only some commands have.
+fn own_kind(letter: u8, own: OwnOption) -> WordKind {
+    match own {
+        OwnOption::Nothing => WordKind::Unknown,
+        OwnOption::Flag(flag) => {
+            if letter == flag {
+                return WordKind::Flag;
+            }
+            WordKind::Unknown
+        }
+        OwnOption::Name => {
+            if letter == b'n' {
+                return WordKind::Name;
+            }
+            WordKind::Unknown
+        }
+    }
+}
+
 // What a word is, by its bytes.
-fn kind_of(word: &[u8], flag: u8) -> WordKind {
+fn kind_of(word: &[u8], own: OwnOption) -> WordKind {
     if word.len() < 2 {
         return WordKind::Operand;
     }
@@ -80,10 +118,7 @@ fn kind_of(word: &[u8], flag: u8) -> WordKind {
     if word[1] == b'e' {
         return WordKind::Edition;
     }
-    if word[1] == flag {
-        return WordKind::Flag;
-    }
-    WordKind::Unknown
+    own_kind(word[1], own)
 }
 
 // Says that an option is unknown.
@@ -121,15 +156,25 @@ fn edition_at(place: usize) -> Step {
     edition_of(&word[..n])
 }
 
+// The name that stands at a place behind -n.
+fn name_at(place: usize) -> Step {
+    if os::arg_count() <= place {
+        complain(b"ti: no name stands behind -n\n");
+        return Step::Wrong;
+    }
+    Step::Name
+}
+
 // What stands at a place among all words; says what is wrong.
-fn step_at(place: u16, flag: u8) -> Step {
+fn step_at(place: u16, own: OwnOption) -> Step {
     let mut word = io::buffer();
     let n = os::arg(place as usize, &mut word);
-    match kind_of(&word[..n], flag) {
+    match kind_of(&word[..n], own) {
         WordKind::Operand => Step::Operand,
         WordKind::End => Step::End,
         WordKind::Flag => Step::Flag,
         WordKind::Edition => edition_at(place as usize + 1),
+        WordKind::Name => name_at(place as usize + 1),
         WordKind::Unknown => wrong_option(&word[..n]),
     }
 }
@@ -144,6 +189,7 @@ fn behind(step: Step, place: u16) -> u16
         Step::End => place + 1,
         Step::Flag => place + 1,
         Step::Edition(_) => place + 2,
+        Step::Name => place + 2,
         Step::Wrong => place + 1,
     }
 }
@@ -168,12 +214,13 @@ fn stopped(words: Words, outcome: Outcome) -> Options
         outcome,
         is_set: false,
         edition,
+        wanted: Wanted::First,
         words,
     }
 }
 
 // The options, by their edition, before the words from a place on.
-fn taken(words: Words, first: u16, is_set: bool, edition: Edition) -> Options
+fn taken(words: Words, first: u16, is_set: bool, edition: Edition, wanted: Wanted) -> Options
     ensures { λ r. ⌜ okEdition (r .edition) ≡ true ⌝ }
 {
     if !edition::edition_ok(edition) {
@@ -183,32 +230,38 @@ fn taken(words: Words, first: u16, is_set: bool, edition: Edition) -> Options
         outcome: Outcome::Taken,
         is_set,
         edition,
+        wanted,
         words: words_from(words, first),
     }
 }
 
-// Takes the options that stand before the operands; of several -e the last counts.
-pub fn take(words: Words, flag: u8) -> Options
+// Takes the options that stand before the operands; of several -e the last counts, and of several -n.
+pub fn take(words: Words, own: OwnOption) -> Options
     ensures { λ r. ⌜ okEdition (r .edition) ≡ true ⌝ }
 {
     let mut first = words.first;
     let mut is_set = false;
     let mut edition = default_edition();
+    let mut wanted = Wanted::First;
     while first < OPTIONS_END {
-        let step = step_at(first, flag);
+        let step = step_at(first, own);
         let next = behind(step, first);
         match step {
             Step::Operand => {
-                return taken(words, first, is_set, edition);
+                return taken(words, first, is_set, edition, wanted);
             }
             Step::End => {
-                return taken(words, next, is_set, edition);
+                return taken(words, next, is_set, edition, wanted);
             }
             Step::Flag => {
                 is_set = true;
             }
             Step::Edition(given) => {
                 edition = given;
+            }
+            Step::Name => {
+                let place = first + 1;
+                wanted = Wanted::Named(place);
             }
             Step::Wrong => {
                 return stopped(words, Outcome::Wrong);

@@ -17,6 +17,7 @@ use ti_common::say;
 use ti_common::words::Task;
 use ti_common::words::Words;
 use ti_options::Outcome;
+use ti_options::OwnOption;
 
 // Room for any line of a file.
 const LINE_ROOM: usize = 4 * FILE_ROOM + 128;
@@ -234,7 +235,7 @@ fn show_operands(edition: Edition, operands: Words) -> Status {
 }
 
 fn show_given(words: Words) -> Status {
-    let options = ti_options::take(words, ti_options::NO_FLAG);
+    let options = ti_options::take(words, OwnOption::Nothing);
     let outcome = options.outcome;
     let edition = options.edition;
     let operands = options.words;

@@ -1,87 +1,35 @@
--- Laws of the walk over the fields: the entry that the arrays hold at a place, and what the rest of the text makes of
--- it.
+-- What the fields come to, by what passing over them answers.
 -- Assumes nothing.
-use mathlib.Core.Path.{_≡_, refl, sym, ap, _∙_, subst}
-use mathlib.Core.List.{List, [], _∷_}
-use Prim.Native.Nat.{ℕ, _-_, _<_}
-use native.Mathlib.Omega.{arith}
-use lib.ListN.{length}
+use mathlib.Core.Path.{_≡_, subst}
+use mathlib.Core.List.{List, []}
+use Prim.Native.Nat.{ℕ}
+use Rattle.base.specs.Answer.{Answer}
 use Rattle.edition.specs.declared.Edition.{Edition}
 use Rattle.entry.specs.Writing.{Handed}
-use Rattle.text.specs.declared.Line.the-variants.{End, Column, Indented}
 use Rattle.text.specs.declared.TextRefusal.{TextRefusal}
-use Rattle.text.specs.declared.TextRefusal.the-variants as R
-use Rattle.text.specs.declared.Said.{Said}
-use Rattle.text.specs.declared.FieldJudged.{FieldJudged}
-use Rattle.text.specs.declared.FieldJudged.the-variants as J
-use Rattle.text.specs.Lines.{nextAt}
-use Rattle.text.specs.Describing.{with-saying, Judging, judging, describedFrom}
-use Rattle.text.specs.Compiling.{textNumber}
-use Rattle.text_laws.specs.LineLaws.{LineAfter, next-after}
-use Rattle.text_laws.specs.FieldLaws.{field-after}
-use Rattle.text_laws.specs.JudgingLaws.{judged-field}
-use Rattle.text_laws.specs.DescribingLaws.{described-end, described-column, described-bad, described-field}
-use Rattle.judge.specs.Judged.{sayingSaid, saysJudged}
+use Rattle.text.specs.Describing.{Fields, sayingsFrom}
+use Rattle.each_field.specs.declared.Passed.{Passed}
+use Rattle.each_field.specs.declared.Passed.the-variants as P
+use Rattle.each_field.specs.Each.{FieldsKept, Kept}
 use Rattle.walk_fields.specs.declared.Walked.the-variants as W
-use Rattle.compile_laws.specs.Held.{textEntry, Holds, Keeps}
 use Rattle.walk_fields.specs.Walks.{Walks}
 
--- the arrays hold what the fields from at to i say
-pub record Walking (e : Edition) (at i : ℕ) (before now : List ℕ → Handed) : Type 0 where
-  pub holds : Holds e (now [])
-  pub entry : (n : List ℕ)
-      → describedFrom e (before [] .lent) at (textEntry e (before n))
-      ≡ describedFrom e (before [] .lent) i (textEntry e (now n))
+module _ (e : Edition) (at : ℕ) (before after : List ℕ → Handed) (r : Passed) (k : Kept e at before after r) where
+  abbrev come-as : (x : Passed) → r ≡ x → FieldsKept e before after (sayingsFrom e (before [] .lent) at) x
+  come-as x q = subst (FieldsKept e before after (sayingsFrom e (before [] .lent) at)) q (k .come)
 
-pub walk-start : (e : Edition) (at : ℕ) (before : List ℕ → Handed) → Holds e (before [])
-    → Walking e at at before before
-walk-start e at before h = record { holds = h; entry = λ n. refl }
+  pub walked-alone : (n : ℕ) → r ≡ P.End n → n ≡ 0 → Walks e at before after W.Alone
+  walked-alone n q z =
+      let c = come-as (P.End n) q in
+      record { holds = k .holds; come = (c .0, (c .1 .0, (c .1 .1 .0, (c .1 .1 .1 .0, c .1 .1 .1 .1 z)))) }
 
-module _ (e : Edition) (at i : ℕ) (before now : List ℕ → Handed) (w : Walking e at i before now) where
-  abbrev t : List ℕ
-  t = before [] .lent
+  pub walked-used : (n : ℕ) → r ≡ P.End n → Walks e at before after W.Several
+  walked-used n q =
+      let c = come-as (P.End n) q in
+      record { holds = k .holds; come = (c .0, (c .1 .0, c .1 .1 .0)) }
 
-  pub walk-end : nextAt t i ≡ End → Walks e at before now W.Done
-  walk-end q = record { holds = w .holds; entry = λ n. w .entry n ∙ described-end e t i (textEntry e (now n)) q }
+  pub walked-header : (p n : ℕ) → r ≡ P.Header p n → Walks e at before after W.Several
+  walked-header p n q = record { holds = k .holds; come = come-as (P.Header p n) q }
 
-  pub walk-column : (p : ℕ) → nextAt t i ≡ Column p → Walks e at before now (W.Refused R.Malformed p)
-  walk-column p q =
-      record { holds = w .holds; entry = λ n. w .entry n ∙ described-column e t i (textEntry e (now n)) p q }
-
-  pub walk-refused : (p : ℕ) (j : FieldJudged) (why : TextRefusal) → nextAt t i ≡ Indented p
-      → saysJudged t p j ≡ judging e t p
-      → j ≡ J.Refused why → Walks e at before now (W.Refused why p)
-  walk-refused p j why q r u =
-      record {
-        holds = w .holds;
-        entry = λ n. w .entry n
-            ∙ described-bad e t i (textEntry e (now n)) p (textNumber why) (p ∷ []) q (sym r ∙ ap (saysJudged t p) u);
-      }
-
-  pub walk-go : (p : ℕ) (j : FieldJudged) (s : Said) (next : ℕ) (after : List ℕ → Handed) → nextAt t i ≡ Indented p
-      → saysJudged t p j ≡ judging e t p → j ≡ J.Said s next → now [] .lent ≡ t → Keeps e now after s
-      → Walking e at next before after
-  walk-go p j s next after q r u l k =
-      let saying : Judging = record { saying = sayingSaid t s; next = next } in
-      record {
-        holds = k .holds;
-        entry = λ n. w .entry n
-            ∙ described-field e t i (textEntry e (now n)) p saying q (sym r ∙ ap (saysJudged t p) u)
-            ∙ ap (describedFrom e t next)
-            (sym (k .entry n ∙ ap (λ (b : List ℕ). with-saying (textEntry e (now n)) (sayingSaid b s)) l));
-      }
-
--- a field stands in the text, and the next place is past it
-pub walk-place : (t : List ℕ) (i p : ℕ) → nextAt t i ≡ Indented p → p < length t
-walk-place t i p q = subst (LineAfter t i) q (next-after t i) .1
-
-pub walk-forward : (e : Edition) (t : List ℕ) (i p : ℕ) (j : FieldJudged) (s : Said) (next : ℕ) → nextAt t i ≡ Indented p
-    → saysJudged t p j ≡ judging e t p → j ≡ J.Said s next → length t - next < length t - i
-walk-forward e t i p j s next q r u =
-    let f = judged-field e t p (record { saying = sayingSaid t s; next = next }) (sym r ∙ ap (saysJudged t p) u) in
-    let a = field-after t p (f .dropped) (f .name) (f .past) (f .form) next (f .field) in
-    let b = subst (LineAfter t i) q (next-after t i) in
-    let a₁ = a .name in
-    let a₂ = a .some in
-    let a₃ = a .form in
-    omega arith
+  pub walked-refused : (why : TextRefusal) (p : ℕ) → r ≡ P.Refused why p → Walks e at before after (W.Refused why p)
+  walked-refused why p q = record { holds = k .holds; come = come-as (P.Refused why p) q }

@@ -1,22 +1,25 @@
-// The fields of a text, one after the other, up to its end or the first bad one (document 01: Source text). Proved:
-// `walk` comes to what `describedFrom` of text/specs gives. Assumed: nothing.
+// The states that the fields of a description give (document 01: Source text). Proved: `walk` keeps what `sayingsFrom`
+// of text/specs gives. Assumed: nothing.
 ghost use mathlib.Core.List.{[]};
 ghost use Rattle.entry.specs.Handed.{handed};
 ghost use Rattle.compile_laws.specs.Held.{Holds};
 ghost use Rattle.walk_fields.specs.Walks.{Walks};
+use each_field::Passed;
 use edition::Edition;
-use text::FieldJudged;
-use text::Line;
 use text::TextRefusal;
 
-// What the fields of a text come to.
+// What the fields of a description come to.
 pub enum Walked {
-    Done,
+    // the text ends behind them, and none is a use
+    Alone,
+    // one is a use, or another header stands behind them
+    Several,
     // a refusal, and the field's first byte
     Refused(TextRefusal, usize),
 }
 
-// Keeps what the fields from the place past a comma on say, up to the text's end or the first bad field.
+// Keeps what the fields from the place past a comma on say, up to the next header, the text's end or the first bad
+// field.
 pub fn walk(
     text: &[u8],
     at: usize,
@@ -36,34 +39,28 @@ pub fn walk(
         (now («number_kinds» .exit)) (now («number_values» .exit)) (now («string_kinds» .exit))
         (now («string_starts» .exit)) (now («string_lengths» .exit)) (now (text .entry))) r ⌝ }
 {
-    let mut i = at;
-    loop {
-        match text_lines::next_at(text, i) {
-            Line::End => {
-                return Walked::Done;
+    let mut places = [0u16; 1]; // none is kept
+    match each_field::each(
+        text,
+        at,
+        edition,
+        true,
+        boolean_kinds,
+        number_kinds,
+        number_values,
+        string_kinds,
+        string_starts,
+        string_lengths,
+        &mut places,
+        0,
+    ) {
+        Passed::End(uses) => {
+            if uses == 0 {
+                return Walked::Alone;
             }
-            Line::Column(p) => {
-                return Walked::Refused(TextRefusal::Malformed, p);
-            }
-            Line::Indented(p) => match judge::judge(text, p, edition) {
-                FieldJudged::Refused(why) => {
-                    return Walked::Refused(why, p);
-                }
-                FieldJudged::Said(said, next) => {
-                    kept_states::keep(
-                        text,
-                        edition,
-                        said,
-                        boolean_kinds,
-                        number_kinds,
-                        number_values,
-                        string_kinds,
-                        string_starts,
-                        string_lengths,
-                    );
-                    i = next;
-                }
-            },
+            Walked::Several
         }
+        Passed::Header(_, _) => Walked::Several,
+        Passed::Refused(why, p) => Walked::Refused(why, p),
     }
 }

@@ -1,10 +1,10 @@
 //! Terminfo entries for Rust: a safe wrapper over the proved library, with no dependencies.
 //!
 //! ```
-//! use chulindafe::{compile, find, Capability, Edition, Entry, State};
+//! use chulindafe::{compile_first, find, Capability, Edition, Entry, State};
 //!
 //! let edition = Edition::SECOND;
-//! let file = compile(b"console|track console,\n\tam, cols#80, bel@,\n", edition)?;
+//! let file = compile_first(b"console|track console,\n\tam, cols#80, bel@,\n", edition)?;
 //! let entry = Entry::open(&file, edition)?;
 //! let Some(Capability::Number(cols)) = find(b"cols", edition) else { panic!() };
 //! let Some(Capability::String(bel)) = find(b"bel", edition) else { panic!() };
@@ -176,12 +176,31 @@ impl<'a> Entry<'a> {
 
 type Ask = unsafe extern "C" fn(*const u8, usize, usize, usize, usize, usize) -> u64;
 
-/// Compiles a text that holds one description, in an edition. A name that the edition does not know is
+/// Compiles the description of a text that has the wanted name, any but its last, in an edition. A
+/// description may build on others of the text (`use=`). A field that the edition does not know is
 /// refused (11).
-pub fn compile(text: &[u8], edition: Edition) -> Result<Vec<u8>, Refusal> {
+pub fn compile(text: &[u8], wanted: &[u8], edition: Edition) -> Result<Vec<u8>, Refusal> {
     let Edition { booleans, numbers, strings } = edition;
     written(|buffer| unsafe {
         raw::terminfo_compile(
+            text.as_ptr(),
+            text.len(),
+            wanted.as_ptr(),
+            wanted.len(),
+            booleans,
+            numbers,
+            strings,
+            buffer.as_mut_ptr(),
+            buffer.len(),
+        )
+    })
+}
+
+/// Compiles the first description of a text, as `compile` does by its name.
+pub fn compile_first(text: &[u8], edition: Edition) -> Result<Vec<u8>, Refusal> {
+    let Edition { booleans, numbers, strings } = edition;
+    written(|buffer| unsafe {
+        raw::terminfo_compile_first(
             text.as_ptr(),
             text.len(),
             booleans,

@@ -35,6 +35,10 @@ extern "C" {
         lent: *const u8, lent_length: usize, buffer: *mut u8, buffer_length: usize,
     ) -> u64;
     pub fn terminfo_compile(
+        text: *const u8, text_length: usize, wanted: *const u8, wanted_length: usize,
+        booleans: usize, numbers: usize, strings: usize, buffer: *mut u8, buffer_length: usize,
+    ) -> u64;
+    pub fn terminfo_compile_first(
         text: *const u8, text_length: usize, booleans: usize, numbers: usize, strings: usize,
         buffer: *mut u8, buffer_length: usize,
     ) -> u64;

@@ -27,8 +27,6 @@ pub enum Refusal {
     Malformed { at: usize },
     /// 11: a field's name is not in the edition, or of another kind.
     Unknown { at: usize },
-    /// 12: a field is `use=`.
-    Use { at: usize },
     /// 13: past a limit.
     Limit { at: usize },
     /// 14: the string to expand is malformed.
@@ -39,6 +37,12 @@ pub enum Refusal {
     StackFull { at: usize },
     /// 17: the place is beyond the edition.
     Place,
+    /// 18: no description of the text has the name.
+    NotFound { at: usize },
+    /// 19: a chain of uses comes back to a description that is being worked on.
+    Circular { at: usize },
+    /// 20: the ninth use of a chain.
+    NinthUse { at: usize },
 }
 
 impl Refusal {
@@ -55,12 +59,14 @@ impl Refusal {
             9 => Refusal::Size,
             10 => Refusal::Malformed { at: given },
             11 => Refusal::Unknown { at: given },
-            12 => Refusal::Use { at: given },
             13 => Refusal::Limit { at: given },
             14 => Refusal::Expansion { at: given },
             15 => Refusal::StackEmpty { at: given },
             16 => Refusal::StackFull { at: given },
             17 => Refusal::Place,
+            18 => Refusal::NotFound { at: given },
+            19 => Refusal::Circular { at: given },
+            20 => Refusal::NinthUse { at: given },
             _ => unreachable!("the library gives no refusal {number}"),
         }
     }
@@ -79,25 +85,29 @@ impl Refusal {
             Refusal::Size => 9,
             Refusal::Malformed { .. } => 10,
             Refusal::Unknown { .. } => 11,
-            Refusal::Use { .. } => 12,
             Refusal::Limit { .. } => 13,
             Refusal::Expansion { .. } => 14,
             Refusal::StackEmpty { .. } => 15,
             Refusal::StackFull { .. } => 16,
             Refusal::Place => 17,
+            Refusal::NotFound { .. } => 18,
+            Refusal::Circular { .. } => 19,
+            Refusal::NinthUse { .. } => 20,
         }
     }
 
-    /// The place that is given with refusals 10 to 16.
+    /// The place that is given with refusals 10 to 16 and 18 to 20.
     pub fn at(self) -> Option<usize> {
         match self {
             Refusal::Malformed { at }
             | Refusal::Unknown { at }
-            | Refusal::Use { at }
             | Refusal::Limit { at }
             | Refusal::Expansion { at }
             | Refusal::StackEmpty { at }
-            | Refusal::StackFull { at } => Some(at),
+            | Refusal::StackFull { at }
+            | Refusal::NotFound { at }
+            | Refusal::Circular { at }
+            | Refusal::NinthUse { at } => Some(at),
             _ => None,
         }
     }
@@ -119,12 +129,14 @@ impl fmt::Display for Refusal {
             Refusal::Size => "the file would be longer than 4,096 bytes",
             Refusal::Malformed { .. } => "malformed text",
             Refusal::Unknown { .. } => "unknown capability, or one of another kind",
-            Refusal::Use { .. } => "use= is not covered",
             Refusal::Limit { .. } => "past a limit",
             Refusal::Expansion { .. } => "malformed string to expand",
             Refusal::StackEmpty { .. } => "an item takes a value from the empty stack",
             Refusal::StackFull { .. } => "an item puts a value on the full stack",
             Refusal::Place => "the place is beyond the edition",
+            Refusal::NotFound { .. } => "no description has the name",
+            Refusal::Circular { .. } => "a chain of uses comes back",
+            Refusal::NinthUse { .. } => "the ninth use of a chain",
         };
         write!(f, "{sentence} (refusal {}", self.number())?;
         match (self, self.at()) {

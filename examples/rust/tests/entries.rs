@@ -4,6 +4,7 @@ use chulindafe::*;
 const ACT4: &[u8] = include_bytes!("../../act4.ti");
 const CONSOLE: &[u8] = include_bytes!("../../console.ti");
 const ONE_WAY: &[u8] = include_bytes!("../../one-way.ti");
+const FAMILY: &[u8] = include_bytes!("../../family.ti");
 
 fn boolean(name: &str) -> BooleanPlace {
     match find(name.as_bytes(), Edition::SECOND) {
@@ -56,8 +57,8 @@ fn names_are_those_of_the_lists() {
 
 #[test]
 fn act4_is_compiled_and_read() -> Result<(), Refusal> {
-    assert_eq!(compile(ACT4, Edition::SECOND)?.len(), 464);
-    let file = compile(ACT4, Edition::FIRST)?;
+    assert_eq!(compile_first(ACT4, Edition::SECOND)?.len(), 464);
+    let file = compile_first(ACT4, Edition::FIRST)?;
     assert_eq!(file.len(), 392);
     let entry = Entry::open(&file, Edition::FIRST)?;
     assert_eq!(entry.names(), b"microterm|act4|microterm act iv");
@@ -75,28 +76,28 @@ fn act4_is_compiled_and_read() -> Result<(), Refusal> {
 #[test]
 fn each_edition_reads_the_others_files() -> Result<(), Refusal> {
     let text = b"a|b,\n\tam, colors#8,\n";
-    assert_eq!(compile(text, Edition::FIRST), Err(Refusal::Unknown { at: 10 }));
-    let file = compile(text, Edition::SECOND)?;
+    assert_eq!(compile_first(text, Edition::FIRST), Err(Refusal::Unknown { at: 10 }));
+    let file = compile_first(text, Edition::SECOND)?;
     let entry = Entry::open(&file, Edition::SECOND)?;
     assert_eq!(entry.number(number("colors"))?, State::Present(8));
     let entry = Entry::open(&file, Edition::FIRST)?;
     assert_eq!(entry.beyond(), Edition { booleans: 16, numbers: 8, strings: 20 });
     assert_eq!(entry.boolean(boolean("am"))?, State::Present(()));
     assert_eq!(entry.number(number("colors")), Err(Refusal::Place));
-    let file = compile(b"a|b,\n\tam,\n", Edition::FIRST)?;
+    let file = compile_first(b"a|b,\n\tam,\n", Edition::FIRST)?;
     let entry = Entry::open(&file, Edition::SECOND)?;
     assert_eq!(entry.beyond(), Edition { booleans: 0, numbers: 0, strings: 0 });
     assert_eq!(entry.boolean(boolean("am"))?, State::Present(()));
     assert_eq!(entry.number(number("colors"))?, State::Absent);
     let unnamed = Edition { booleans: 64, numbers: 64, strings: 512 };
-    let file = compile(text, unnamed)?;
+    let file = compile_first(text, unnamed)?;
     assert_eq!(Entry::open(&file, unnamed)?.string(StringPlace(511))?, State::Absent);
     Ok(())
 }
 
 #[test]
 fn a_place_beyond_the_edition_is_refused() -> Result<(), Refusal> {
-    let file = compile(ACT4, Edition::FIRST)?;
+    let file = compile_first(ACT4, Edition::FIRST)?;
     let edition = Edition { booleans: 2, numbers: 1, strings: 11 };
     let entry = Entry::open(&file, edition)?;
     assert_eq!(entry.beyond(), Edition { booleans: 19, numbers: 7, strings: 127 });
@@ -109,7 +110,7 @@ fn a_place_beyond_the_edition_is_refused() -> Result<(), Refusal> {
 
 #[test]
 fn files_are_refused() -> Result<(), Refusal> {
-    let file = compile(ACT4, Edition::FIRST)?;
+    let file = compile_first(ACT4, Edition::FIRST)?;
     let opened = |file: &[u8]| Entry::open(file, Edition::FIRST).map(|_| ());
     let with = |place: usize, byte| {
         let mut file = file.clone();
@@ -131,20 +132,21 @@ fn files_are_refused() -> Result<(), Refusal> {
 
 #[test]
 fn texts_are_refused_with_their_place() {
-    let refused = |text: &[u8]| compile(text, Edition::SECOND).unwrap_err();
+    let refused = |text: &[u8]| compile_first(text, Edition::SECOND).unwrap_err();
     assert_eq!(refused(b""), Refusal::Malformed { at: 0 });
     assert_eq!(refused(b"a|b,\n\tam, cols#80, wrong,\n"), Refusal::Unknown { at: 19 });
-    assert_eq!(refused(b"a|b,\n\tuse=c,\n"), Refusal::Use { at: 6 });
+    assert_eq!(refused(b"a|b,\n\tuse=c,\n"), Refusal::NotFound { at: 6 });
+    assert_eq!(refused(b"a|b,\n\tuse=a,\n"), Refusal::Circular { at: 6 });
     assert_eq!(refused(b"a|b,\n\tlm#32768,\n"), Refusal::Limit { at: 6 });
     assert_eq!(refused(&[b' '; 16_385]), Refusal::Length);
     let large = Edition { strings: 513, ..Edition::SECOND };
-    assert_eq!(compile(&[b' '; 16_385], large), Err(Refusal::Header));
+    assert_eq!(compile_first(&[b' '; 16_385], large), Err(Refusal::Header));
 }
 
 #[test]
 fn a_cancelled_state_stays_cancelled_in_a_merge() -> Result<(), Refusal> {
     let edition = Edition::SECOND;
-    let (first, second) = (compile(ONE_WAY, edition)?, compile(CONSOLE, edition)?);
+    let (first, second) = (compile_first(ONE_WAY, edition)?, compile_first(CONSOLE, edition)?);
     let ri = string("ri");
     let state = |file: &[u8]| -> Result<State<Vec<u8>>, Refusal> {
         Ok(match Entry::open(file, Edition::FIRST)?.string(ri)? {
@@ -157,6 +159,32 @@ fn a_cancelled_state_stays_cancelled_in_a_merge() -> Result<(), Refusal> {
     assert_eq!(state(&merge(&first, &second, edition)?)?, State::Cancelled);
     assert_eq!(state(&merge(&second, &first, edition)?)?, State::Present(b"\x1bM".to_vec()));
     assert_eq!(merge(&first, &[], edition), Err(Refusal::Length));
+    Ok(())
+}
+
+#[test]
+fn descriptions_build_on_others() -> Result<(), Refusal> {
+    let edition = Edition::SECOND;
+    let state = |name: &[u8], capability| -> Result<State<Vec<u8>>, Refusal> {
+        let file = compile(FAMILY, name, edition)?;
+        Ok(match Entry::open(&file, edition)?.string(capability)? {
+            State::Absent => State::Absent,
+            State::Cancelled => State::Cancelled,
+            State::Present(bytes) => State::Present(bytes.to_vec()),
+        })
+    };
+    assert_eq!(state(b"base", string("ri"))?, State::Present(b"\x1bM".to_vec()));
+    assert_eq!(state(b"wide", string("ri"))?, State::Present(b"\x1bM".to_vec()));
+    assert_eq!(state(b"one-way", string("ri"))?, State::Cancelled);
+    assert_eq!(state(b"relay", string("ri"))?, State::Cancelled);
+    assert_eq!(state(b"relay", string("cr"))?, State::Present(b"\r".to_vec()));
+    assert_eq!(compile(FAMILY, b"base", edition), compile_first(FAMILY, edition));
+    assert_eq!(state(b"no-one", string("ri")), Err(Refusal::NotFound { at: 0 }));
+    let chain: Vec<u8> = (b'a'..=b'j')
+        .flat_map(|c| format!("{0}|x,\n use={1},\n", c as char, (c + 1) as char).into_bytes())
+        .collect();
+    assert_eq!(compile_first(&chain, edition), Err(Refusal::NinthUse { at: 8 * 13 + 6 }));
+    assert_eq!(compile(&chain, b"c", edition), Err(Refusal::NotFound { at: 9 * 13 + 6 }));
     Ok(())
 }
 

@@ -4,7 +4,7 @@ use mathlib.Core.Path.{subst}
 use native.Mathlib.Omega.{arith}
 use Rattle.text.specs.declared.Compiled.{Compiled}
 use Rattle.text.specs.Compiling.{saysCompiled}
-use Rattle.text_laws.specs.Values.{Bounded}
+use Rattle.building_laws.specs.Values.{Bounded}
 use Rattle.c_numbers.specs.Numbers.{numbered}
 use borrow.Author.Needs.{needs}
 use Rattle.c_numbers.proofs.compiled_number.Statement.{statement}

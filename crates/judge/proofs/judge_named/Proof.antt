@@ -41,25 +41,25 @@ returns : tie.Need-returns
 returns c =
     let a = c .before .before .before .before .before .before .before .args in
     let m = found-means (a .edition) (now (a .name)) (c .before .before .before .before .before .find-all .result) (c .before .before .before .before .known-in .result) (c .before .before .before .before .before .find-all .ensures) (c .before .before .before .before .known-in .ensures) in
-    named-found (now (a .name)) (a .form) (a .edition) (a .next) _ (m ∙ c .before .before .place .given .1) refl (c .boolean-by .result) (c .boolean-by .ensures)
+    named-found (now (a .name)) (a .form) (a .next) (a .edition) _ (m ∙ c .before .before .place .given .1) refl (c .boolean-by .result) (c .boolean-by .ensures)
 
 returns-2 : tie.Need-returns-2
 returns-2 c =
     let a = c .before .before .before .before .before .before .before .args in
     let m = found-means (a .edition) (now (a .name)) (c .before .before .before .before .before .find-all .result) (c .before .before .before .before .known-in .result) (c .before .before .before .before .before .find-all .ensures) (c .before .before .before .before .known-in .ensures) in
-    named-found (now (a .name)) (a .form) (a .edition) (a .next) _ (m ∙ c .before .before .place2 .given .1) refl (c .number-by .result) (c .number-by .ensures)
+    named-found (now (a .name)) (a .form) (a .next) (a .edition) _ (m ∙ c .before .before .place2 .given .1) refl (c .number-by .result) (c .number-by .ensures)
 
 returns-3 : tie.Need-returns-3
 returns-3 c =
     let a = c .before .before .before .before .before .before .before .args in
     let m = found-means (a .edition) (now (a .name)) (c .before .before .before .before .before .find-all .result) (c .before .before .before .before .known-in .result) (c .before .before .before .before .before .find-all .ensures) (c .before .before .before .before .known-in .ensures) in
-    named-found (now (a .name)) (a .form) (a .edition) (a .next) _ (m ∙ c .before .before .place3 .given .1) refl (c .string-by .result) (c .string-by .ensures)
+    named-found (now (a .name)) (a .form) (a .next) (a .edition) _ (m ∙ c .before .before .place3 .given .1) refl (c .string-by .result) (c .string-by .ensures)
 
 returns-4 : tie.Need-returns-4
 returns-4 c =
     let a = c .before .before .before .before .before .before .args in
     let m = found-means (a .edition) (now (a .name)) (c .before .before .before .before .find-all .result) (c .before .before .before .known-in .result) (c .before .before .before .before .find-all .ensures) (c .before .before .before .known-in .ensures) in
-    c .judge-unknown .ensures (a .edition) (a .next) (m ∙ c .before .enum-told .given .1)
+    c .judge-unknown .ensures (a .edition) (m ∙ c .before .enum-told .given .1)
 
 pub judge-named-spec : {M : Type 1} → statement M
 judge-named-spec =

@@ -7,7 +7,7 @@ use borrow.Author.Needs.{needs}
 use Rattle.judge.specs.Judged.{SaidIn}
 use Rattle.text.specs.declared.Said.{Said}
 use Rattle.compile_laws.specs.Held.{Keeps}
-use Rattle.compile_laws.proofs.KeepLaws.{keeps-nothing, keeps-boolean, keeps-number, keeps-string}
+use Rattle.compile_laws.proofs.KeepLaws.{keeps-nothing, keeps-use, keeps-boolean, keeps-number, keeps-string}
 use Rattle.kept_states.proofs.keep.Statement.{statement}
 use Rattle.kept_states.proofs.keep.Tie as tie
 
@@ -49,6 +49,9 @@ keep-string-requires c κs =
     let f = h .1 .given .stringStarts in
     let k = h .1 .given .stringLengths in
     (omega arith, (omega arith, omega arith))
+
+enum-told-2 : tie.Need-enum-told-2
+enum-told-2 c = search needs
 
 returns : tie.Need-returns
 returns c =
@@ -96,6 +99,11 @@ returns-4 c =
     let k = c .before .before .before .before .before .before .keep-string .ensures in
     keeps-string (a .edition) _ _ _ _ _ _ _ (h .1) _ _ _ _ _ _ _ _ (l .0) (l .1) (k .0) (k .1 .0) (k .1 .1) (c .before .before .before .before .before .before .before .before .before .before .before .said3 .given .1)
 
+returns-5 : tie.Need-returns-5
+returns-5 c =
+    let a = c .before .before .before .before .before .before .before .before .before .args in
+    keeps-use (a .edition) _ _ _ _ _ _ _ (c .before .before .before .before .before .before .before .before .before .pre .1) _ _ _ (c .enum-told2 .given .1)
+
 pub keep-spec : {M : Type 1} → statement M
 keep-spec =
     tie.close
@@ -107,6 +115,7 @@ keep-spec =
     keep-number-requires
     enum-known-said-3
     keep-string-requires
+    enum-told-2
     returns
     same-length
     returns-2
@@ -116,4 +125,5 @@ keep-spec =
     same-length-4
     same-length-5
     same-length-6
-    returns-4)
+    returns-4
+    returns-5)

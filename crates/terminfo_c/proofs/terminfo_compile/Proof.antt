@@ -1,10 +1,11 @@
--- `terminfo_c::terminfo_compile` meets its contract: what compiling answers, as a number.
+-- `terminfo_c::terminfo_compile` meets its contract: what compiling the wanted description answers, as a number.
 -- Assumes nothing.
 use mathlib.Core.Path.{sym, ap, _∙_, subst}
 use denote.Ref.{now}
 use lib.ListN.{length}
+use Rattle.text.specs.Building.{named}
 use borrow.Author.Needs.{needs}
-use Rattle.text_laws.specs.Values.{Bounded, compiling-bounded}
+use Rattle.building_laws.specs.Values.{Bounded, compiling-bounded}
 use Rattle.c_numbers.specs.Numbers.{numbered}
 use Rattle.terminfo_c.proofs.Laws.{numbered-length}
 use Rattle.terminfo_c.proofs.terminfo_compile.Statement.{statement}
@@ -15,8 +16,8 @@ compile-requires c κs = search needs
 
 compiled-number-requires : tie.Need-compiled-number-requires
 compiled-number-requires c κs =
-    let a = c .before .before .before .before .before .before .args in
-    subst Bounded (sym (c .before .before .compile .ensures .0)) (compiling-bounded _ (now (a .text)) (length (now (a .buffer))))
+    let a = c .before .before .before .before .before .before .before .args in
+    subst Bounded (sym (c .before .before .compile .ensures .0)) (compiling-bounded _ (now (a .text)) (named (now (a .wanted))) (length (now (a .buffer))))
 
 same-length : tie.Need-same-length
 same-length c = search needs

@@ -6,10 +6,10 @@ use Rattle.ti_options.proofs.take.Statement.{statement}
 use Rattle.ti_options.proofs.take.Tie as tie
 
 abbrev Inv-loop : tie.InvT-loop
-Inv-loop words flag first₀ is-set₀ edition₀ first is-set edition = Unit {0}
+Inv-loop words own first₀ is-set₀ edition₀ wanted₀ first is-set edition wanted = Unit {0}
 
 abbrev μ-loop : tie.MeasureT-loop
-μ-loop words flag first₀ is-set₀ edition₀ first is-set edition = 1000 - first
+μ-loop words own first₀ is-set₀ edition₀ wanted₀ first is-set edition wanted = 1000 - first
 
 default-edition-requires : tie.Need-default-edition-requires Inv-loop μ-loop
 default-edition-requires c κs = search needs
@@ -50,6 +50,12 @@ enum-known-step c = search needs
 enum-told-4 : tie.Need-enum-told-4 Inv-loop μ-loop
 enum-told-4 c = search needs
 
+add-place : tie.Need-add-place Inv-loop μ-loop
+add-place c = search needs
+
+enum-told-5 : tie.Need-enum-told-5 Inv-loop μ-loop
+enum-told-5 c = search needs
+
 stopped-requires : tie.Need-stopped-requires Inv-loop μ-loop
 stopped-requires c κs = search needs
 
@@ -67,6 +73,12 @@ loop-less-2 c = search needs
 
 loop-again-2 : tie.Need-loop-again-2 Inv-loop μ-loop
 loop-again-2 c = search needs
+
+loop-less-3 : tie.Need-loop-less-3 Inv-loop μ-loop
+loop-less-3 c = search needs
+
+loop-again-3 : tie.Need-loop-again-3 Inv-loop μ-loop
+loop-again-3 c = search needs
 
 stopped-requires-2 : tie.Need-stopped-requires-2 Inv-loop μ-loop
 stopped-requires-2 c κs = search needs
@@ -93,11 +105,15 @@ take-spec =
     enum-told-3
     enum-known-step
     enum-told-4
+    add-place
+    enum-told-5
     stopped-requires
     returns-3
     loop-less
     loop-again
     loop-less-2
     loop-again-2
+    loop-less-3
+    loop-again-3
     stopped-requires-2
     returns-4)

@@ -1,134 +1,120 @@
--- `walk_fields::walk` meets its contract. The loop's invariant: the arrays hold what the fields passed say.
+-- `walk_fields::walk` meets its contract: what passing over the fields answers, with their states kept.
 -- Assumes nothing.
-use mathlib.Core.Path.{_≡_, refl, sym, ap, _∙_, subst}
-use Prim.Native.Nat.{ℕ, _-_}
-use denote.Ref.{now}
-use lib.ListN.{length}
+use mathlib.Core.Path.{refl, sym}
+use native.Mathlib.Omega.{arith}
 use borrow.Author.Needs.{needs}
-use Rattle.entry.specs.Handed.{handed}
-use Rattle.judge.specs.Judged.{JudgedIn}
-use Rattle.walk_fields.proofs.WalkLaws.{Walking, walk-start, walk-end, walk-column, walk-refused, walk-go, walk-place, walk-forward}
+use borrow.Author.Tests.{eqb-true}
+use Rattle.base.proofs.IfLaws.{true-false}
+use Rattle.walk_fields.proofs.WalkLaws.{walked-alone, walked-used, walked-header, walked-refused}
 use Rattle.walk_fields.proofs.walk.Statement.{statement}
 use Rattle.walk_fields.proofs.walk.Tie as tie
 
-abbrev Inv-loop : tie.InvT-loop
-Inv-loop text at edition boolean-kinds₀ number-kinds₀ number-values₀ string-kinds₀ string-starts₀ string-lengths₀ i₀ boolean-kinds number-kinds number-values string-kinds string-starts string-lengths i = Walking edition at i (λ n. handed n boolean-kinds₀ number-kinds₀ number-values₀ string-kinds₀ string-starts₀ string-lengths₀ text) (λ n. handed n boolean-kinds number-kinds number-values string-kinds string-starts string-lengths text) × (length boolean-kinds ≡ length boolean-kinds₀) × (length number-kinds ≡ length number-kinds₀) × (length number-values ≡ length number-values₀) × (length string-kinds ≡ length string-kinds₀) × (length string-starts ≡ length string-starts₀) × (length string-lengths ≡ length string-lengths₀)
+slice-aggregate-each : tie.Need-slice-aggregate-each
+slice-aggregate-each c = search needs
 
-abbrev μ-loop : tie.MeasureT-loop
-μ-loop text at edition boolean-kinds₀ number-kinds₀ number-values₀ string-kinds₀ string-starts₀ string-lengths₀ i₀ boolean-kinds number-kinds number-values string-kinds string-starts string-lengths i = length text - i
+each-requires : tie.Need-each-requires
+each-requires c κs = (omega arith, ((λ k. c .before .before .before .before .before .before .before .before .before .before .before .before .before .before .pre), (λ k. true-false k)))
 
-loop-holds : tie.Need-loop-holds Inv-loop μ-loop
-loop-holds c = (walk-start _ _ _ (c .before .before .before .before .before .before .before .pre), refl, refl, refl, refl, refl, refl)
+enum-known-uses : tie.Need-enum-known-uses
+enum-known-uses c = search needs
 
-next-at-requires : tie.Need-next-at-requires Inv-loop μ-loop
-next-at-requires c κs = search needs
+same-length : tie.Need-same-length
+same-length c = c .before .before .before .before .before .before .before .before .before .before .before .before .before .before .before .before .before .each .kept .1 .1 .1 .1 .0
 
-enum-told : tie.Need-enum-told Inv-loop μ-loop
+same-length-2 : tie.Need-same-length-2
+same-length-2 c = c .before .before .before .before .before .before .before .before .before .before .before .before .before .before .before .before .before .each .kept .1 .1 .1 .1 .1 .0
+
+same-length-3 : tie.Need-same-length-3
+same-length-3 c = c .before .before .before .before .before .before .before .before .before .before .before .before .before .before .before .before .before .each .kept .1 .1 .1 .1 .1 .1 .0
+
+same-length-4 : tie.Need-same-length-4
+same-length-4 c = c .before .before .before .before .before .before .before .before .before .before .before .before .before .before .before .before .before .each .kept .1 .1 .1 .1 .1 .1 .1 .0
+
+same-length-5 : tie.Need-same-length-5
+same-length-5 c = c .before .before .before .before .before .before .before .before .before .before .before .before .before .before .before .before .before .each .kept .1 .1 .1 .1 .1 .1 .1 .1 .0
+
+same-length-6 : tie.Need-same-length-6
+same-length-6 c = c .before .before .before .before .before .before .before .before .before .before .before .before .before .before .before .before .before .each .kept .1 .1 .1 .1 .1 .1 .1 .1 .1 .0
+
+returns : tie.Need-returns
+returns c = walked-alone _ _ _ _ _ (c .before .before .before .before .before .before .before .before .before .before .before .before .before .before .before .before .before .each .ensures .0 refl) _ (c .before .before .uses .given .1) (c .if1 .taken)
+
+enum-told : tie.Need-enum-told
 enum-told c = search needs
 
-same-length : tie.Need-same-length Inv-loop μ-loop
-same-length c = c .before .before .before .loop .inv .1
-
-same-length-2 : tie.Need-same-length-2 Inv-loop μ-loop
-same-length-2 c = c .before .before .before .loop .inv .2
-
-same-length-3 : tie.Need-same-length-3 Inv-loop μ-loop
-same-length-3 c = c .before .before .before .loop .inv .3
-
-same-length-4 : tie.Need-same-length-4 Inv-loop μ-loop
-same-length-4 c = c .before .before .before .loop .inv .4
-
-same-length-5 : tie.Need-same-length-5 Inv-loop μ-loop
-same-length-5 c = c .before .before .before .loop .inv .5
-
-same-length-6 : tie.Need-same-length-6 Inv-loop μ-loop
-same-length-6 c = c .before .before .before .loop .inv .6
-
-returns : tie.Need-returns Inv-loop μ-loop
-returns c = walk-end _ _ _ _ _ (c .before .before .before .loop .inv .0) (sym (c .before .before .next-at .ensures) ∙ c .enum-told .given .1)
-
-enum-known-p : tie.Need-enum-known-p Inv-loop μ-loop
-enum-known-p c = search needs
-
-same-length-7 : tie.Need-same-length-7 Inv-loop μ-loop
-same-length-7 c = c .before .before .before .before .loop .inv .1
-
-same-length-8 : tie.Need-same-length-8 Inv-loop μ-loop
-same-length-8 c = c .before .before .before .before .loop .inv .2
-
-same-length-9 : tie.Need-same-length-9 Inv-loop μ-loop
-same-length-9 c = c .before .before .before .before .loop .inv .3
-
-same-length-10 : tie.Need-same-length-10 Inv-loop μ-loop
-same-length-10 c = c .before .before .before .before .loop .inv .4
-
-same-length-11 : tie.Need-same-length-11 Inv-loop μ-loop
-same-length-11 c = c .before .before .before .before .loop .inv .5
-
-same-length-12 : tie.Need-same-length-12 Inv-loop μ-loop
-same-length-12 c = c .before .before .before .before .loop .inv .6
-
-returns-2 : tie.Need-returns-2 Inv-loop μ-loop
-returns-2 c = walk-column _ _ _ _ _ (c .before .before .before .before .loop .inv .0) _ (sym (c .before .before .before .next-at .ensures) ∙ c .before .p .given .1)
-
-enum-known-p-2 : tie.Need-enum-known-p-2 Inv-loop μ-loop
-enum-known-p-2 c = search needs
-
-judge-requires : tie.Need-judge-requires Inv-loop μ-loop
-judge-requires c κs = walk-place _ _ _ (sym (c .before .before .before .next-at .ensures) ∙ c .before .p2 .given .1)
-
-enum-known-why : tie.Need-enum-known-why Inv-loop μ-loop
+enum-known-why : tie.Need-enum-known-why
 enum-known-why c = search needs
 
-same-length-13 : tie.Need-same-length-13 Inv-loop μ-loop
-same-length-13 c = c .before .before .before .before .before .before .before .before .loop .inv .1
+same-length-7 : tie.Need-same-length-7
+same-length-7 c = c .before .before .before .before .before .before .before .before .before .before .before .before .before .before .before .before .before .each .kept .1 .1 .1 .1 .0
 
-same-length-14 : tie.Need-same-length-14 Inv-loop μ-loop
-same-length-14 c = c .before .before .before .before .before .before .before .before .loop .inv .2
+same-length-8 : tie.Need-same-length-8
+same-length-8 c = c .before .before .before .before .before .before .before .before .before .before .before .before .before .before .before .before .before .each .kept .1 .1 .1 .1 .1 .0
 
-same-length-15 : tie.Need-same-length-15 Inv-loop μ-loop
-same-length-15 c = c .before .before .before .before .before .before .before .before .loop .inv .3
+same-length-9 : tie.Need-same-length-9
+same-length-9 c = c .before .before .before .before .before .before .before .before .before .before .before .before .before .before .before .before .before .each .kept .1 .1 .1 .1 .1 .1 .0
 
-same-length-16 : tie.Need-same-length-16 Inv-loop μ-loop
-same-length-16 c = c .before .before .before .before .before .before .before .before .loop .inv .4
+same-length-10 : tie.Need-same-length-10
+same-length-10 c = c .before .before .before .before .before .before .before .before .before .before .before .before .before .before .before .before .before .each .kept .1 .1 .1 .1 .1 .1 .1 .0
 
-same-length-17 : tie.Need-same-length-17 Inv-loop μ-loop
-same-length-17 c = c .before .before .before .before .before .before .before .before .loop .inv .5
+same-length-11 : tie.Need-same-length-11
+same-length-11 c = c .before .before .before .before .before .before .before .before .before .before .before .before .before .before .before .before .before .each .kept .1 .1 .1 .1 .1 .1 .1 .1 .0
 
-same-length-18 : tie.Need-same-length-18 Inv-loop μ-loop
-same-length-18 c = c .before .before .before .before .before .before .before .before .loop .inv .6
+same-length-12 : tie.Need-same-length-12
+same-length-12 c = c .before .before .before .before .before .before .before .before .before .before .before .before .before .before .before .before .before .each .kept .1 .1 .1 .1 .1 .1 .1 .1 .1 .0
 
-returns-3 : tie.Need-returns-3 Inv-loop μ-loop
-returns-3 c = walk-refused _ _ _ _ _ (c .before .before .before .before .before .before .before .before .loop .inv .0) _ _ _ (sym (c .before .before .before .before .before .before .before .next-at .ensures) ∙ c .before .before .before .before .before .p2 .given .1) (c .before .before .before .judge .ensures .0) (c .before .why .given .1)
+returns-2 : tie.Need-returns-2
+returns-2 c = walked-used _ _ _ _ _ (c .before .before .before .before .before .before .before .before .before .before .before .before .before .before .before .before .before .each .ensures .0 refl) _ (c .before .before .uses .given .1)
 
-enum-known-said : tie.Need-enum-known-said Inv-loop μ-loop
-enum-known-said c = search needs
+same-length-13 : tie.Need-same-length-13
+same-length-13 c = c .before .before .before .before .before .before .before .before .before .before .before .before .before .before .before .each .kept .1 .1 .1 .1 .0
 
-keep-requires : tie.Need-keep-requires Inv-loop μ-loop
-keep-requires c κs =
-    let a = c .before .before .before .before .before .before .before .before .before .before .before .before .before .before .before .before .before .before .before .before .before .before .args in
-    (subst (JudgedIn (a .edition) (now (a .text))) (c .before .before .before .before .before .before .before .said .given .1) (c .before .before .before .before .before .before .before .before .before .judge .ensures .1), c .before .before .before .before .before .before .before .before .before .before .before .before .before .before .loop .inv .0 .holds)
+same-length-14 : tie.Need-same-length-14
+same-length-14 c = c .before .before .before .before .before .before .before .before .before .before .before .before .before .before .before .each .kept .1 .1 .1 .1 .1 .0
 
-loop-less : tie.Need-loop-less Inv-loop μ-loop
-loop-less c =
-    let a = c .before .before .before .before .before .before .before .before .before .before .before .before .before .before .before .before .before .before .before .before .before .before .before .before .before .before .before .before .before .before .before .before .before .before .before .args in
-    walk-forward (a .edition) (now (a .text)) (c .before .before .before .before .before .before .before .before .before .before .before .before .before .before .before .before .before .before .before .before .before .before .before .before .before .before .before .loop .i) _ _ _ _ (sym (c .before .before .before .before .before .before .before .before .before .before .before .before .before .before .before .before .before .before .before .before .before .before .before .before .before .before .next-at .ensures) ∙ c .before .before .before .before .before .before .before .before .before .before .before .before .before .before .before .before .before .before .before .before .before .before .before .before .p2 .given .1) (c .before .before .before .before .before .before .before .before .before .before .before .before .before .before .before .before .before .before .before .before .before .before .judge .ensures .0) (c .before .before .before .before .before .before .before .before .before .before .before .before .before .before .before .before .before .before .before .before .said .given .1)
+same-length-15 : tie.Need-same-length-15
+same-length-15 c = c .before .before .before .before .before .before .before .before .before .before .before .before .before .before .before .each .kept .1 .1 .1 .1 .1 .1 .0
 
-loop-again : tie.Need-loop-again Inv-loop μ-loop
-loop-again c =
-    let v = c .before .before .before .before .before .before .before .before .before .before .before .before .before .before .before .before .before .before .before .before .before .before .before .before .before .before .before .loop .inv in
-    let k = c .before .before .before .before .before .before .before .before .before .before .before .before .keep .kept in
-    (walk-go _ _ _ _ _ (v .0) _ _ _ _ _ (sym (c .before .before .before .before .before .before .before .before .before .before .before .before .before .before .before .before .before .before .before .before .before .before .before .before .before .before .next-at .ensures) ∙ c .before .before .before .before .before .before .before .before .before .before .before .before .before .before .before .before .before .before .before .before .before .before .before .before .p2 .given .1) (c .before .before .before .before .before .before .before .before .before .before .before .before .before .before .before .before .before .before .before .before .before .before .judge .ensures .0) (c .before .before .before .before .before .before .before .before .before .before .before .before .before .before .before .before .before .before .before .before .said .given .1) refl (c .before .before .before .before .before .before .before .before .before .before .before .before .keep .ensures), k .1 .1 .1 .0 ∙ v .1, k .1 .1 .1 .1 .0 ∙ v .2, k .1 .1 .1 .1 .1 .0 ∙ v .3, k .1 .1 .1 .1 .1 .1 .0 ∙ v .4, k .1 .1 .1 .1 .1 .1 .1 .0 ∙ v .5, k .1 .1 .1 .1 .1 .1 .1 .1 .0 ∙ v .6)
+same-length-16 : tie.Need-same-length-16
+same-length-16 c = c .before .before .before .before .before .before .before .before .before .before .before .before .before .before .before .each .kept .1 .1 .1 .1 .1 .1 .1 .0
+
+same-length-17 : tie.Need-same-length-17
+same-length-17 c = c .before .before .before .before .before .before .before .before .before .before .before .before .before .before .before .each .kept .1 .1 .1 .1 .1 .1 .1 .1 .0
+
+same-length-18 : tie.Need-same-length-18
+same-length-18 c = c .before .before .before .before .before .before .before .before .before .before .before .before .before .before .before .each .kept .1 .1 .1 .1 .1 .1 .1 .1 .1 .0
+
+returns-3 : tie.Need-returns-3
+returns-3 c = walked-header _ _ _ _ _ (c .before .before .before .before .before .before .before .before .before .before .before .before .before .before .before .each .ensures .0 refl) _ _ (c .enum-told .given .1)
+
+same-length-19 : tie.Need-same-length-19
+same-length-19 c = c .before .before .before .before .before .before .before .before .before .before .before .before .before .before .before .before .each .kept .1 .1 .1 .1 .0
+
+same-length-20 : tie.Need-same-length-20
+same-length-20 c = c .before .before .before .before .before .before .before .before .before .before .before .before .before .before .before .before .each .kept .1 .1 .1 .1 .1 .0
+
+same-length-21 : tie.Need-same-length-21
+same-length-21 c = c .before .before .before .before .before .before .before .before .before .before .before .before .before .before .before .before .each .kept .1 .1 .1 .1 .1 .1 .0
+
+same-length-22 : tie.Need-same-length-22
+same-length-22 c = c .before .before .before .before .before .before .before .before .before .before .before .before .before .before .before .before .each .kept .1 .1 .1 .1 .1 .1 .1 .0
+
+same-length-23 : tie.Need-same-length-23
+same-length-23 c = c .before .before .before .before .before .before .before .before .before .before .before .before .before .before .before .before .each .kept .1 .1 .1 .1 .1 .1 .1 .1 .0
+
+same-length-24 : tie.Need-same-length-24
+same-length-24 c = c .before .before .before .before .before .before .before .before .before .before .before .before .before .before .before .before .each .kept .1 .1 .1 .1 .1 .1 .1 .1 .1 .0
+
+returns-4 : tie.Need-returns-4
+returns-4 c = walked-refused _ _ _ _ _ (c .before .before .before .before .before .before .before .before .before .before .before .before .before .before .before .before .each .ensures .0 refl) _ _ (c .before .why .given .1)
 
 pub walk-spec : {M : Type 1} → statement M
 walk-spec =
     tie.close
     (tie.spec
-    Inv-loop
-    μ-loop
-    loop-holds
-    next-at-requires
-    enum-told
+    slice-aggregate-each
+    each-requires
+    enum-known-uses
     same-length
     same-length-2
     same-length-3
@@ -136,7 +122,8 @@ walk-spec =
     same-length-5
     same-length-6
     returns
-    enum-known-p
+    enum-told
+    enum-known-why
     same-length-7
     same-length-8
     same-length-9
@@ -144,9 +131,6 @@ walk-spec =
     same-length-11
     same-length-12
     returns-2
-    enum-known-p-2
-    judge-requires
-    enum-known-why
     same-length-13
     same-length-14
     same-length-15
@@ -154,7 +138,10 @@ walk-spec =
     same-length-17
     same-length-18
     returns-3
-    enum-known-said
-    keep-requires
-    loop-less
-    loop-again)
+    same-length-19
+    same-length-20
+    same-length-21
+    same-length-22
+    same-length-23
+    same-length-24
+    returns-4)

@@ -1,0 +1,1 @@
+// Laws of descriptions that build on others, and of compiling as a whole. They are in specs/.

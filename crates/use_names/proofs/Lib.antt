@@ -1,0 +1,4 @@
+pub mod NameLaws
+pub mod HavingLaws
+pub mod UseLaws
+pub mod HashLaws

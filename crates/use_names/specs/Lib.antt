@@ -1,0 +1,3 @@
+pub mod Having
+pub mod Searched
+pub mod Hashed

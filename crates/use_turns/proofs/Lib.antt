@@ -1,0 +1,4 @@
+pub mod WeightLaws
+pub mod FrameLaws
+pub mod ReadLaws
+pub mod AdvanceLaws

@@ -1,0 +1,12 @@
+pub mod Walk
+pub mod Plain
+pub mod Heights
+pub mod Once
+pub mod Finished
+pub mod Fast
+pub mod FastLaws
+pub mod Machine
+pub mod Tree
+pub mod Related
+pub mod Entered
+pub mod Examples
