@@ -30,9 +30,9 @@ use Rattle.text.specs.Building.{buildingText}
 use Rattle.text.specs.Compiling.{fitted, compiling}
 use Rattle.text_laws.specs.JudgingLaws.{refused-gives}
 use Rattle.text_laws.specs.DescribingLaws.{each-getD}
+use Rattle.building_laws.specs.Values.{TextNumber, text-least, Within, text-within}
 use Rattle.text_editions.specs.Alike.{AlikeList, past, Alike, bare-alike, described-alike, over-alike}
 use Rattle.text_editions.specs.Descriptions.{KnownIn, describing-larger, describing-known}
-use Rattle.text_editions.specs.Refusals.{refused-least}
 
 -- ---- what the wanted description of a text comes to
 
@@ -149,7 +149,7 @@ accepts e t w room z =
     by-entry : length t ≤ textMost → (a : Answer Entry) → buildingText e t w ≡ a → accepted (fitted room a) ≡ true
         → Accepts e t w
     by-entry l (refused n v) q u =
-        let k = refused-least e t w n v q in
+        let k = text-least n (subst (Within TextNumber (length t)) q (text-within e t w) .0) in
         true-false (sym u ∙ rw (ne-eqb n 9 (λ z. omega arith), ne-eqb n 8 (λ z. omega arith)))
     by-entry l (gives x) q u = record { entry = x; short = l; describes = q }
 

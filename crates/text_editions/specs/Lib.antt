@@ -1,5 +1,4 @@
 pub mod Alike
 pub mod Fields
 pub mod Descriptions
-pub mod Refusals
 pub mod Editions
