@@ -649,16 +649,16 @@ def check_larger(text, edition, wanted=None):
         same(library.contents(file, after), (names, extended(states, after)), text)
 
 
-def report():
-    """How often success and each refusal came; exits if one never came."""
+def report(refusals, needed, came):
+    """How often success and each refusal came, and what else must come; exits if one never came."""
     print(f"{sum(tally.values())} inputs; " + ", ".join(
         f"{'refusal ' + str(number) if number else 'success'} {tally[number]}"
-        for number in REFUSALS))
-    for number, what in NEEDED:
+        for number in refusals))
+    for number, what in needed:
         print(f"{'refusal ' + str(number) if number else 'success'}, {what}: "
-              f"{seen[number, what]}")
-    missing = [f"refusal {number}" for number in REFUSALS if not tally[number]]
-    missing += [f"{number} {what}" for number, what in NEEDED if not seen[number, what]]
+              f"{came[number, what]}")
+    missing = [f"refusal {number}" for number in refusals if not tally[number]]
+    missing += [f"{number} {what}" for number, what in needed if not came[number, what]]
     if missing:
         sys.exit("never seen: " + ", ".join(missing))
 
@@ -669,6 +669,6 @@ if __name__ == "__main__":
     print(f"{vectors} vectors, {examples} examples and act4 as stated")
     for part in (check_two_bytes, check_short, check_generated):
         part()
-    report()
+    report(REFUSALS, NEEDED, seen)
     print(f"{vectors} vectors, {examples} examples, {sum(tally.values())} inputs of which "
           f"{GENERATED} texts generated, no difference")

@@ -8,7 +8,6 @@ never came.
 """
 
 import signal
-import sys
 from collections import Counter
 from itertools import chain, product
 
@@ -19,8 +18,8 @@ import use_texts
 from library import pack
 from model import FIRST_EDITION, LARGEST_FILE, SECOND_EDITION
 from test_compile import (ALIAS_BYTES, CANCEL, DAMAGES, LAST_BYTES, LONG, check, check_larger,
-                          field, laid_out, line_end, names, pick_edition, sized, skipped, some,
-                          spaces, states_of, tags, tally, wrong_field)
+                          field, laid_out, line_end, names, pick_edition, report, sized, skipped,
+                          some, spaces, states_of, tags, tally, wrong_field)
 from test_random import below, chance, pick, rng, upto
 from test_vectors import same
 from text_model import MOST_DESCRIPTIONS, MOST_USES
@@ -567,20 +566,6 @@ def check_generated():
         note(text, edition, wanted, answer)
 
 
-def report():
-    """How often success and each refusal came; exits if one never came."""
-    print(f"{sum(tally.values())} inputs; " + ", ".join(
-        f"{'refusal ' + str(number) if number else 'success'} {tally[number]}"
-        for number in REFUSALS))
-    for number, what in NEEDED:
-        print(f"{'refusal ' + str(number) if number else 'success'}, {what}: "
-              f"{seen[number, what]}")
-    missing = [f"refusal {number}" for number in REFUSALS if not tally[number]]
-    missing += [f"{number} {what}" for number, what in NEEDED if not seen[number, what]]
-    if missing:
-        sys.exit("never seen: " + ", ".join(missing))
-
-
 if __name__ == "__main__":
     walks = check_model()
     print(f"{walks} graphs: the model's two walks give the same")
@@ -588,6 +573,6 @@ if __name__ == "__main__":
               for part in (run_examples, check_chains, check_many, check_wanted, check_graphs)}
     print(", ".join(f"{name} {count}" for name, count in counts.items()))
     check_generated()
-    report()
+    report(REFUSALS, NEEDED, seen)
     print(f"{counts['examples']} examples, {counts['graphs']} graphs, {sum(tally.values())} inputs "
           f"of which {GENERATED} texts generated, no difference")
