@@ -366,5 +366,5 @@ pub fn compile_first(edition: Edition, text: &[u8], buffer: &mut [u8]) -> Compil
     ensures { λ r. ⌜ Leaves (compiling edition (now (text .entry)) first (length (now (buffer .entry))))
         (now (buffer .entry)) (now (buffer .exit)) (saysCompiled r) ⌝ }
 {
-    compile_wanted(edition, text, false, text, buffer)
+    compile_wanted(edition, text, false, text, buffer) // no name is wanted, so that none is read
 }

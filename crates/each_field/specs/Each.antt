@@ -42,7 +42,8 @@ pub record KeepsUses (before : List ℕ) (uses : ℕ) (after : List ℕ) (count 
 
 -- all fields are right, and the line l stands behind them; the uses' places stand behind the first `uses` places, and
 -- there are `count` now, none of which is past the room
-pub record Passes (e : Edition) (t : List ℕ) (at : ℕ) (before : List ℕ) (uses : ℕ) (after : List ℕ) (count : ℕ) (l : Line) : Type 0 where
+pub record Passes (e : Edition) (t : List ℕ) (at : ℕ) (before : List ℕ) (uses : ℕ) (after : List ℕ) (count : ℕ)
+    (l : Line) : Type 0 where
   pub sayings : List SayingAt
   pub read : sayingsFrom e t at ≡ gives (fieldsTo sayings l)
   pub places : after ≡ putAt before uses (usePlaces sayings)
@@ -83,7 +84,8 @@ Room t at places uses =
 -- ---- one field
 
 -- a field's use is counted, and its place kept where places are kept
-pub record Counted (keeping : Bool) (before : List ℕ) (uses : ℕ) (after : List ℕ) (count : ℕ) (p : ℕ) (s : Said) : Type 0 where
+pub record Counted (keeping : Bool) (before : List ℕ) (uses : ℕ) (after : List ℕ) (count : ℕ) (p : ℕ)
+    (s : Said) : Type 0 where
   pub told : keeping ≡ true → count ≡ 0 → (uses ≡ 0) × (usesSaid s ≡ 0)
   pub few : count ≤ uses + 1
   pub recorded : keeping ≡ false → (t : List ℕ) → KeepsUses before uses after count (saidAt t p s)

@@ -1,5 +1,5 @@
--- What fields make of an entry: reading them all and then adding what they say is reading and adding field by field;
--- the entry that they describe has a written form, but for its size and its names' total.
+-- What fields make of an entry: the entry that they describe has a written form, but for its size and its names'
+-- total.
 -- Assumes nothing.
 use mathlib.Core.Path.{_≡_, refl, ap, _∙_, subst}
 use mathlib.Core.List.{List, [], _∷_}
@@ -13,45 +13,12 @@ use Rattle.entry.specs.State.{State, absent, cancelled, present}
 use Rattle.entry.specs.Reading.{Entry, editionOf}
 use Rattle.entry.specs.Merging.{over}
 use Rattle.entry_laws.specs.Sound.{NumberFits, ContentFree}
-use Rattle.text.specs.declared.Line.the-variants.{End, Column, Indented}
-use Rattle.text.specs.Lines.{nextAt}
 use Rattle.text.specs.Describing.{Saying, nothing, boolean, number, string, uses}
 use Rattle.text.specs.Describing.{Judging, judging, SayingAt, Fields, fieldsTo, sayingsFrom}
 use Rattle.text.specs.Describing.{standing, with-saying, described, bare, describedFrom}
 use Rattle.text_laws.specs.JudgingLaws.{refused-gives, given-is, Fits, judged-fits}
-use Rattle.text_laws.specs.SayingsLaws.{sayings-end, sayings-column, sayings-bad, sayings-field}
 use Rattle.text_laws.specs.SayingsLaws.{SaidIn, sayings-said}
 use Rattle.entry_laws.specs.Merge.{over-has}
-
--- ---- reading and adding what is said, field by field
-
-module _ (e : Edition) (t : List ℕ) (i : ℕ) (x : Entry) where
-  abbrev adding : Entry → Answer Fields → Answer Entry
-  adding y a = mapAnswer (λ (f : Fields). described y (f .sayings)) a
-
-  pub described-end : nextAt t i ≡ End → describedFrom e t i x ≡ gives x
-  unfolding described
-  described-end q = ap (adding x) (sayings-end e t i q)
-
-  pub described-column : (p : ℕ) → nextAt t i ≡ Column p → describedFrom e t i x ≡ gives x
-  unfolding described
-  described-column p q = ap (adding x) (sayings-column e t i p q)
-
-  pub described-bad : (p n : ℕ) (v : List ℕ) → nextAt t i ≡ Indented p → judging e t p ≡ refused n v
-      → describedFrom e t i x ≡ refused n v
-  described-bad p n v q w = ap (adding x) (sayings-bad e t i p n v q w)
-
-  pub described-field : (p : ℕ) (j : Judging) → nextAt t i ≡ Indented p → judging e t p ≡ gives j
-      → describedFrom e t i x ≡ describedFrom e t (j .next) (with-saying x (j .saying))
-  unfolding described
-  described-field p j q w = ap (adding x) (sayings-field e t i p j q w) ∙ first (sayingsFrom e t (j .next))
-    where
-      first : (a : Answer Fields)
-          → adding x (mapAnswer (λ (f : Fields). fieldsTo (record { place = p; saying = j .saying } ∷ f .sayings)
-          (f .behind)) a)
-          ≡ adding (with-saying x (j .saying)) a
-      first (refused n v) = refl
-      first (gives f) = refl
 
 -- ---- the entry has a written form, but for its size and its names' total
 

@@ -2,14 +2,14 @@
 -- that it gives are those of the fields at their places.
 -- Assumes nothing.
 use mathlib.Core.Path.{_≡_, refl, sym, ap, _∙_, subst}
-use mathlib.Core.List.{List, [], _∷_, _++_, append-assoc}
+use mathlib.Core.List.{List, [], _∷_, _++_}
 use Prim.Native.Nat.{ℕ, _-_, _<_}
 use native.Mathlib.Omega.{arith}
 use lib.ListN.{length}
 use Rattle.base.specs.Loop.{Turn, go, stop}
 use Rattle.base.proofs.LoopLaws.{loop-go, loop-stop, loop-ind}
 use Rattle.base.specs.Tabulate.{Each}
-use Rattle.base.specs.Answer.{Answer, refused, gives, mapAnswer}
+use Rattle.base.specs.Answer.{Answer, refused, gives}
 use Rattle.edition.specs.declared.Edition.{Edition}
 use Rattle.text.specs.declared.Line.{Line}
 use Rattle.text.specs.declared.Line.the-variants.{End, Column, Indented}
@@ -70,7 +70,8 @@ module _ (e : Edition) (t : List ℕ) where
     read-end q =
         loop-stop _ (sayingsTurn e t) falls (refused 0 []) r (gives (fieldsTo (r .sayings) End)) (turn-line r End q)
 
-    pub read-column : (p : ℕ) → nextAt t (r .at) ≡ Column p → sayingsRead e t r ≡ gives (fieldsTo (r .sayings) (Column p))
+    pub read-column : (p : ℕ) → nextAt t (r .at) ≡ Column p
+        → sayingsRead e t r ≡ gives (fieldsTo (r .sayings) (Column p))
     unfolding sayingsRead
     read-column p q =
         loop-stop _ (sayingsTurn e t) falls (refused 0 []) r (gives (fieldsTo (r .sayings) (Column p)))
@@ -126,47 +127,6 @@ module _ (e : Edition) (t : List ℕ) where
     pub sayings-ind : (r : FieldsRead) → Q r (sayingsRead e t r)
     unfolding sayingsRead
     sayings-ind r = loop-ind _ (sayingsTurn e t) falls (refused 0 []) Q at-stop at-go r
-
-  -- sayings in front of those that are read stay in front
-  read-behind : (ss : List SayingAt) (r : FieldsRead)
-      → sayingsRead e t (record { at = r .at; sayings = ss ++ r .sayings })
-      ≡ mapAnswer (λ (f : Fields). fieldsTo (ss ++ f .sayings) (f .behind)) (sayingsRead e t r)
-  read-behind ss =
-      sayings-ind
-      (λ r a. sayingsRead e t (after r) ≡ mapAnswer (λ (f : Fields). fieldsTo (ss ++ f .sayings) (f .behind)) a)
-      (λ r q. read-end (after r) q)
-      (λ r p q. read-column (after r) p q)
-      (λ r p n v q w. read-bad (after r) p n v q w)
-      (λ r p j a q w h. read-field (after r) p j q w
-      ∙ ap (λ xs. sayingsRead e t (record { at = j .next; sayings = xs })) (append-assoc ss (r .sayings) _)
-      ∙ h)
-    where
-      after : FieldsRead → FieldsRead
-      after r = record { at = r .at; sayings = ss ++ r .sayings }
-
-  -- ---- the fields from a place on
-
-  module _ (i : ℕ) where
-    abbrev start : FieldsRead
-    start = record { at = i; sayings = [] }
-
-    pub sayings-end : nextAt t i ≡ End → sayingsFrom e t i ≡ gives (fieldsTo [] End)
-    sayings-end q = read-end start q
-
-    pub sayings-column : (p : ℕ) → nextAt t i ≡ Column p → sayingsFrom e t i ≡ gives (fieldsTo [] (Column p))
-    sayings-column p q = read-column start p q
-
-    pub sayings-bad : (p n : ℕ) (v : List ℕ) → nextAt t i ≡ Indented p → judging e t p ≡ refused n v
-        → sayingsFrom e t i ≡ refused n v
-    sayings-bad p n v q w = read-bad start p n v q w
-
-    pub sayings-field : (p : ℕ) (j : Judging) → nextAt t i ≡ Indented p → judging e t p ≡ gives j
-        → sayingsFrom e t i
-        ≡ mapAnswer (λ (f : Fields). fieldsTo (record { place = p; saying = j .saying } ∷ f .sayings) (f .behind))
-        (sayingsFrom e t (j .next))
-    sayings-field p j q w =
-        read-field start p j q w
-        ∙ read-behind (record { place = p; saying = j .saying } ∷ []) (record { at = j .next; sayings = [] })
 
 -- ---- each saying is that of the field at its place, which is in the text
 

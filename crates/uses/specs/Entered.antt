@@ -1,5 +1,5 @@
--- A walk with heights that gives has entered each description at most once: a finished one that does not fit is entered only
--- on the way to a refusal.
+-- A walk with heights that gives has entered each description at most once: a finished one that does not fit is
+-- entered only on the way to a refusal.
 -- Assumes nothing.
 use mathlib.Core.Path.{_≡_, refl, sym, ap, _∙_}
 use mathlib.Core.Bool.{Bool, true, false, _||_}
