@@ -1,3 +1,4 @@
 pub mod KeepLaws
 pub mod WriteLaws
 pub mod ListedLaws
+pub mod ClearedLaws

@@ -12,17 +12,14 @@ ghost use Rattle.text.specs.Building.{first, named};
 ghost use Rattle.text.specs.Compiling.{compiling};
 ghost use Rattle.expansion.specs.Expanding.{expanding};
 ghost use Rattle.c_numbers.specs.Numbers.{numbered, none, partCode, openingArray};
-ghost use Rattle.terminfo_c.specs.Calls.{edition, arrayAfter, booleanState, numberState, stringState};
-ghost use Rattle.terminfo_c.specs.Calls.{asking8, namingBy, FileNumber, ExpandedNumber, ListedNumber};
-ghost use Rattle.terminfo_c.specs.Calls.{findNumber, namedState};
+ghost use Rattle.c_asked.specs.Asked.{edition, booleanState, numberState, stringState};
+ghost use Rattle.c_asked.specs.Asked.{asking8, namingBy, findNumber, namedState};
+ghost use Rattle.terminfo_c.specs.Calls.{arrayAfter, FileNumber, ExpandedNumber, ListedNumber};
 ghost use Rattle.list_states.specs.Listing.{arrays};
 use edition::Edition;
-use edition::Kind;
 use edition::Place;
 use entry::Opened;
-use names::Found;
 
-mod ask;
 mod list;
 
 // Opens a file: 0, with the array filled, or the refusal.
@@ -168,7 +165,7 @@ pub extern "C" fn terminfo_ask(
     let o = read::open(file, e);
     match o {
         Opened::Entry(_, _) => {
-            *answers = ask::asked_numbers(file, e, o, kinds, places);
+            *answers = c_asked::asked_numbers(file, e, o, kinds, places);
             0
         }
         Opened::Refused(_) => 17 * c_numbers::TOP,
@@ -334,16 +331,7 @@ pub extern "C" fn terminfo_compile_first(
 pub extern "C" fn terminfo_capability(kind: u8, place: usize) -> u64
     ensures { λ r. ⌜ r ≡ numbered (λ w. w) (namingBy kind place) ⌝ }
 {
-    if kind == 0 {
-        return c_numbers::name_number(names::name_of(Kind::Boolean, Place(place)));
-    }
-    if kind == 1 {
-        return c_numbers::name_number(names::name_of(Kind::Number, Place(place)));
-    }
-    if kind == 2 {
-        return c_numbers::name_number(names::name_of(Kind::String, Place(place)));
-    }
-    17 * c_numbers::TOP
+    c_asked::capability(kind, place)
 }
 
 // Expands a string into the buffer from place at on: the steps above the output's length, or the refusal. The lasting
@@ -369,15 +357,7 @@ pub extern "C" fn terminfo_expand(
 pub extern "C" fn terminfo_find(name: &[u8], booleans: usize, numbers: usize, strings: usize) -> u64
     ensures { λ r. ⌜ r ≡ findNumber booleans numbers strings (now (name .entry)) ⌝ }
 {
-    let f = lookup::find(
-        name,
-        Edition {
-            booleans,
-            numbers,
-            strings,
-        },
-    );
-    c_numbers::found_number(f)
+    c_asked::find(name, booleans, numbers, strings)
 }
 
 // The state of the capability that a name means: 11 for a name that the edition doesn't know, else the state.
@@ -391,16 +371,5 @@ pub extern "C" fn terminfo_state(
 ) -> u64
     ensures { λ r. ⌜ r ≡ namedState booleans numbers strings (now (file .entry)) (now (name .entry)) ⌝ }
 {
-    let e = Edition {
-        booleans,
-        numbers,
-        strings,
-    };
-    let f = lookup::find(name, e);
-    match f {
-        Found::Boolean(p) => c_numbers::boolean_number(states::boolean(file, e, p)),
-        Found::Number(p) => c_numbers::number_number(states::number(file, e, p)),
-        Found::String(p) => c_numbers::string_number(states::string(file, e, p)),
-        Found::Unknown => c_numbers::refused_number(refusal_numbers::of_found(f)),
-    }
+    c_asked::state(file, booleans, numbers, strings, name)
 }

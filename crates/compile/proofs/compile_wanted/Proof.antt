@@ -1,14 +1,14 @@
 -- `compile::compile_wanted` meets its contract: by the edition, the text's length and whether one description is alone.
 -- Assumes nothing.
-use mathlib.Core.Path.{refl, sym, _∙_, subst}
-use native.Mathlib.Omega.{arith}
+use mathlib.Core.Path.{sym, _∙_, subst}
 use denote.Ref.{now}
 use lib.ListN.{length}
 use borrow.Author.Tests.{not-true, not-false, ltb-true, ltb-false}
 use Rattle.text.specs.Building.{buildingText}
 use Rattle.text.specs.Compiling.{fitted}
-use Rattle.compile.specs.Wanted.{wantedBy, Tries}
-use Rattle.compile.proofs.Alone.{edition-large, text-long, text-comes, several-comes}
+use Rattle.wanted.specs.Wanted.{wantedBy}
+use Rattle.compile_alone.specs.Tries.{Tries}
+use Rattle.compile.proofs.Laws.{edition-large, text-long, text-comes, several-comes}
 use borrow.Author.Needs.{needs}
 use Rattle.compile.proofs.compile_wanted.Statement.{statement}
 use Rattle.compile.proofs.compile_wanted.Tie as tie
@@ -37,8 +37,8 @@ enum-known-answer c = search needs
 enum-told : tie.Need-enum-told
 enum-told c = search needs
 
-compile-several-requires : tie.Need-compile-several-requires
-compile-several-requires c κs = ((sym (c .before .before .before .before .before .before .before .before .before .edition-ok .ensures) ∙ not-false _ (c .before .before .before .before .before .before .before .before .if1 .left)), ltb-false _ _ (c .before .before .before .before .before .before .before .if2 .left))
+compile-requires : tie.Need-compile-requires
+compile-requires c κs = ((sym (c .before .before .before .before .before .before .before .before .before .edition-ok .ensures) ∙ not-false _ (c .before .before .before .before .before .before .before .before .if1 .left)), ltb-false _ _ (c .before .before .before .before .before .before .before .if2 .left))
 
 same-length : tie.Need-same-length
 same-length c = search needs
@@ -56,7 +56,7 @@ returns-4 : tie.Need-returns-4
 returns-4 c =
     let a = c .before .before .before .before .before .before .before .before .before .before .before .before .before .before .before .before .args in
     let w = wantedBy (a .is-named) (now (a .wanted)) in
-    text-comes (a .edition) (now (a .text)) w (now (a .buffer)) (sym (c .before .before .before .before .before .before .before .before .before .before .before .before .edition-ok .ensures) ∙ not-false _ (c .before .before .before .before .before .before .before .before .before .before .before .if1 .left)) (ltb-false _ _ (c .before .before .before .before .before .before .before .before .before .before .if2 .left)) _ _ (several-comes (a .edition) (now (a .text)) w (now (a .buffer)) _ (subst (Tries (fitted (length (now (a .buffer))) (buildingText (a .edition) (now (a .text)) w)) (now (a .buffer)) _) (c .before .before .before .before .enum-told .given .1) (c .before .before .before .before .before .before .before .before .try-first .ensures)) _ _ (c .before .before .compile-several .ensures))
+    text-comes (a .edition) (now (a .text)) w (now (a .buffer)) (sym (c .before .before .before .before .before .before .before .before .before .before .before .before .edition-ok .ensures) ∙ not-false _ (c .before .before .before .before .before .before .before .before .before .before .before .if1 .left)) (ltb-false _ _ (c .before .before .before .before .before .before .before .before .before .before .if2 .left)) _ _ (several-comes (a .edition) (now (a .text)) w (now (a .buffer)) _ (subst (Tries (fitted (length (now (a .buffer))) (buildingText (a .edition) (now (a .text)) w)) (now (a .buffer)) _) (c .before .before .before .before .enum-told .given .1) (c .before .before .before .before .before .before .before .before .try-first .ensures)) _ _ (c .before .before .compile .ensures))
 
 pub compile-wanted-spec : {M : Type 1} → statement M
 compile-wanted-spec =
@@ -68,7 +68,7 @@ compile-wanted-spec =
     try-first-requires
     enum-known-answer
     enum-told
-    compile-several-requires
+    compile-requires
     same-length
     returns-3
     same-length-2

@@ -1,7 +1,7 @@
 -- `terminfo_c::terminfo_names` meets its contract: the part's number.
 use mathlib.Core.Path.{ap, _∙_}
 use Rattle.c_numbers.specs.Numbers.{numbered, partCode}
-use Rattle.terminfo_c.proofs.Laws.{names-within}
+use Rattle.c_asked.proofs.Laws.{names-within}
 use borrow.Author.Needs.{needs}
 use Rattle.terminfo_c.proofs.terminfo_names.Statement.{statement}
 use Rattle.terminfo_c.proofs.terminfo_names.Tie as tie

@@ -1,7 +1,7 @@
 -- `terminfo_c::terminfo_string` meets its contract: the state's number.
 use mathlib.Core.Path.{ap, _∙_}
 use Rattle.c_numbers.specs.Numbers.{stringNumber}
-use Rattle.terminfo_c.proofs.Laws.{string-within}
+use Rattle.c_asked.proofs.Laws.{string-within}
 use borrow.Author.Needs.{needs}
 use Rattle.terminfo_c.proofs.terminfo_string.Statement.{statement}
 use Rattle.terminfo_c.proofs.terminfo_string.Tie as tie
