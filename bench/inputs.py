@@ -191,6 +191,7 @@ def main(folder):
     put_strings(folder, "cup", [of_xterm[model.STRINGS.index("cup")]])
     put_strings(folder, "sgr", [of_xterm[model.STRINGS.index("sgr")]])
     put_strings(folder, "setaf", [SETAF])
+    put_strings(folder, "decimal", [b"%p1%d"])
     put_strings(folder, "mix", sorted(mix))
     notes = [f"- mix: {len(mix)} distinct strings of {len(sized)} installed entries;",
              f"- open: xterm without extended section, in the first edition "

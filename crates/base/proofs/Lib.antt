@@ -1,4 +1,5 @@
 pub mod IfLaws
+pub mod KeyLaws
 pub mod LoopLaws
 pub mod OverwriteLaws
 pub mod ScanLaws

@@ -7,7 +7,8 @@ use native.Mathlib.Nat.{add-zero}
 use native.Mathlib.Omega.{arith}
 use native.Mathlib.Numerals.{add-one}
 use lib.ListN.{length, take, drop, set, getD, length-append, length-drop, take-append-drop}
-use lib.Seq.{length-take-le, take-suc, take-at, drop-drop, set-split, drop-append-add, drop-length}
+use lib.Seq.{length-take-le, take-suc, take-at, take-append-le, take-take}
+use lib.Seq.{drop-at, drop-drop, set-split, drop-append-add, drop-length}
 use Rattle.base.specs.Overwrite.{putAt}
 
 pub put-nil : {A : Type 0} (b : List A) (at : ℕ) → putAt b at [] ≡ b
@@ -68,3 +69,16 @@ put-copy b₀ b at i s d h l e =
 -- a whole list replaced
 pub put-whole : {A : Type 0} (b xs : List A) → length xs ≡ length b → putAt b 0 xs ≡ xs
 put-whole b xs e = put-front b xs ∙ rw (e, drop-length b) (append-nil xs)
+
+-- one element more in front
+pub put-before : {A : Type 0} (b : List A) (e : ℕ) (x : A) (xs : List A) → 0 < e → e + length xs ≤ length b → set (putAt b e xs) (e - 1) x ≡ putAt b (e - 1) (x ∷ xs)
+unfolding putAt
+put-before {A} b e x xs h l =
+    let rest : List A = xs ++ drop (e + length xs) b in
+    let s : suc (e - 1) ≡ e = omega arith in
+    let n : length (take e b) ≡ e = length-take-le e b (omega arith) in
+    let w : e - 1 < length (take e b ++ rest) = rw (length-append (take e b) rest) (omega arith) in
+    let t : take (e - 1) (take e b ++ rest) ≡ take (e - 1) b = take-append-le (e - 1) (take e b) rest (omega arith) ∙ take-take (e - 1) e b (omega arith) in
+    let d : drop (suc (e - 1)) (take e b ++ rest) ≡ rest = ap (λ (k : ℕ). drop k (take e b ++ rest)) s ∙ drop-at (take e b) rest e n in
+    let f : e - 1 + suc (length xs) ≡ e + length xs = omega arith in
+    set-split (take e b ++ rest) (e - 1) x w ∙ rw (t, d, f)

@@ -1,4 +1,5 @@
 pub mod Digits
+pub mod DigitCount
 pub mod Forms
 pub mod Passes
 pub mod Steps

@@ -11,20 +11,17 @@ use lib.ListN.{length, replicate, length-append, length-replicate}
 use lib.Signed.{ltZ}
 use mir.Syntax.{w32}
 use mir.Val.{SFits, ofZ}
-use borrow.Author.Tests.{ltb-true}
-use Rattle.base.specs.Overwrite.{putAt}
-use Rattle.base.proofs.OverwriteLaws.{put-run}
+use borrow.Author.Tests.{ltb-true, eqb-true}
+use Rattle.base.proofs.IfLaws.{true-false}
 use Rattle.signed.specs.Signed.{low32}
 use Rattle.signed.proofs.Laws.{low-bits}
 use Rattle.expansion.specs.declared.Base.{Base}
 use Rattle.expansion.specs.declared.Base.the-variants.{Decimal}
 use Rattle.print.specs.Bounds.{printedMost}
-use Rattle.print.specs.Emit.{emitted}
 use Rattle.expansion.specs.Print.{digits, sign, numeral, printed}
 use Rattle.print.specs.declared.Numeral.{Numeral}
-use Rattle.print.specs.Numeral.{minusSign, front, NumeralOf, Plain}
-use Rattle.print.proofs.DigitLaws.{digits-word}
-use Rattle.print.proofs.EmitLaws.{emitted-fits, emitted-not}
+use Rattle.print.specs.Numeral.{minusSign, front, before, isPlain, bytesOf, NumeralOf}
+use Rattle.expansion_laws.specs.DigitCount.{digits-word}
 
 -- ---- what stands before the digits
 
@@ -92,8 +89,22 @@ unsigned base v r a m s d l g k t h e =
 
 -- ---- a printed number by its parts
 
-abbrev pub digitsOf : Numeral → List ℕ
-digitsOf n = digits (n .radix) (n .letters) (n .magnitude)
+pub length-before : (minus zeros : Bool) (width count : ℕ)
+    → length (before minus zeros width count) ≡ length (minusSign minus) + (width - (count + length (minusSign minus)))
+unfolding before
+length-before minus zeros width count = length-front minus zeros (width - (count + length (minusSign minus)))
+
+pub before-none : (minus zeros : Bool) (width count : ℕ) → isPlain minus width ≡ true → before minus zeros width count ≡ []
+unfolding before
+before-none true zeros width count e = true-false (sym e)
+before-none false zeros width count e =
+    let k : width - (count + length (minusSign false)) ≡ 0 = omega (arith, eqb-true width 0 e) in
+    rw k (front-none false zeros)
+
+pub before-front : (minus zeros : Bool) (width count missing : ℕ) → missing ≡ width - (count + length (minusSign minus))
+    → front minus zeros missing ≡ before minus zeros width count
+unfolding before
+before-front minus zeros width count missing e = ap (front minus zeros) e
 
 parts : (minus zeros : Bool) (base : Base) (width : ℕ) (v : ℤ) (ds : List ℕ) (k : ℕ) → sign base v ≡ minusSign minus → numeral base v ≡ ds
     → k ≡ width - (length (minusSign minus) + length ds) → printed base zeros width v ≡ front minus zeros k ++ ds
@@ -101,51 +112,21 @@ unfolding printed front
 parts minus true base width v ds k s d e = rw (s, d, ← e) (sym (append-assoc (minusSign minus) (replicate k 48) ds))
 parts minus false base width v ds k s d e = rw (s, d, ← e) (sym (append-assoc (replicate k 32) (minusSign minus) ds))
 
--- n is what v is printed from, with so many digits, bytes of sign and bytes of fill
-pub record Printing (base : Base) (zeros : Bool) (width : ℕ) (v : ℤ) (n : Numeral) (count sign missing : ℕ) : Type 0 where
-  pub numeral-of : NumeralOf base v n
-  pub count-is : count ≡ length (digitsOf n)
-  pub sign-is : sign ≡ length (minusSign (n .minus))
-  pub missing-is : missing ≡ width - (count + sign)
-  pub magnitude-fits : n .magnitude < 2 ^ 32
-  pub width-fits : width < 256
+pub numeral-printed : {base : Base} {v : ℤ} (zeros : Bool) (width : ℕ) (n : Numeral) → NumeralOf base v n
+    → printed base zeros width v ≡ bytesOf n zeros width
+unfolding before
+numeral-printed {base} {v} zeros width n h =
+    let ds : List ℕ = digits (n .radix) (n .letters) (n .magnitude) in
+    let m : ℕ = length (minusSign (n .minus)) in
+    let k : width - (length ds + m) ≡ width - (m + length ds) = omega arith in
+    parts (n .minus) zeros base width v ds (width - (length ds + m)) (h .sign-is) (h .digits-are) k
 
-module _ {base : Base} {zeros : Bool} {width : ℕ} {v : ℤ} {n : Numeral} {count sign missing : ℕ} (p : Printing base zeros width v n count sign missing) where
-  pub printing-short : count + sign + missing ≤ printedMost
-  printing-short =
-      let few = digits-word (n .radix) (n .letters) (n .magnitude) (p .numeral-of .radix-least) (p .magnitude-fits) in
-      omega (arith, few, p .count-is, p .sign-is, sign-short (n .minus), p .missing-is, p .width-fits)
+pub before-short : (minus zeros : Bool) (width count : ℕ) → width < 256 → count ≤ 32 → length (before minus zeros width count) + count ≤ printedMost
+before-short minus zeros width count h c = omega (arith, length-before minus zeros width count, sign-short minus)
 
-  pub printing-is : printed base zeros width v ≡ front (n .minus) zeros missing ++ digitsOf n
-  printing-is =
-      let k : missing ≡ width - (length (minusSign (n .minus)) + length (digitsOf n)) = omega (arith, p .missing-is, p .count-is, p .sign-is) in
-      parts (n .minus) zeros base width v (digitsOf n) missing (p .numeral-of .sign-is) (p .numeral-of .digits-are) k
-
-  pub printing-length : length (printed base zeros width v) ≡ count + sign + missing
-  printing-length =
-      let l = length-front (n .minus) zeros missing in
-      ap length printing-is ∙ length-append (front (n .minus) zeros missing) (digitsOf n) ∙ omega (arith, l, p .count-is, p .sign-is)
-
-  -- it is put: what stands before the digits by one call, the digits by another
-  pub printing-put : (b₀ b₁ b₂ : List ℕ) (at : ℕ) → at + (count + sign + missing) ≤ length b₀ → b₁ ≡ putAt b₀ at (front (n .minus) zeros missing)
-      → b₂ ≡ putAt b₁ (at + (count + sign + missing) - length (digitsOf n)) (digitsOf n) → b₂ ≡ emitted b₀ at (printed base zeros width v)
-  printing-put b₀ b₁ b₂ at h e f =
-      let l = length-front (n .minus) zeros missing in
-      let k : ℕ = at + (count + sign + missing) - length (digitsOf n) in
-      let q : k ≡ at + length (front (n .minus) zeros missing) = omega (arith, l, p .count-is, p .sign-is) in
-      f
-      ∙ put-run b₀ b₁ at k _ (digitsOf n) _ e q printing-is (omega (arith, p .count-is))
-      ∙ sym (emitted-fits b₀ at (printed base zeros width v) (omega (arith, printing-length)))
-
-  pub printing-not : (b : List ℕ) (at : ℕ) → length b < at + (count + sign + missing) → b ≡ emitted b at (printed base zeros width v)
-  printing-not b at h = sym (emitted-not b at (printed base zeros width v) (omega (arith, printing-length)))
-
-pub decimal-digits : {base : Base} {v : ℤ} (n : Numeral) → NumeralOf base v n → n .radix ≡ 10 → digits 10 97 (n .magnitude) ≡ digitsOf n
-decimal-digits n h e = rw (e, h .decimal-letters e)
-
-pub plain-is : {base : Base} {v : ℤ} (zeros : Bool) (width : ℕ) (n : Numeral) → NumeralOf base v n → Plain n width
-    → printed base zeros width v ≡ digits 10 97 (n .magnitude)
-plain-is {base} {v} zeros width n h p =
-    let k : 0 ≡ width - (length (minusSign (n .minus)) + length (digitsOf n)) = omega (arith, p .no-width) in
-    parts (n .minus) zeros base width v (digitsOf n) 0 (h .sign-is) (h .digits-are) k
-    ∙ rw (front-none (n .minus) zeros, p .no-sign) (sym (decimal-digits n h (p .decimal)))
+pub bytes-short : (n : Numeral) (zeros : Bool) (width : ℕ) → 2 ≤ n .radix → n .magnitude < 2 ^ 32 → width < 256
+    → length (bytesOf n zeros width) ≤ printedMost
+bytes-short n zeros width h m w =
+    let ds : List ℕ = digits (n .radix) (n .letters) (n .magnitude) in
+    let few = digits-word (n .radix) (n .letters) (n .magnitude) h m in
+    rw (length-append (before (n .minus) zeros width (length ds)) ds) (before-short (n .minus) zeros width (length ds) w few)

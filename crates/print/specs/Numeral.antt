@@ -3,10 +3,11 @@
 use mathlib.Core.Path.{_≡_}
 use mathlib.Core.Bool.{Bool, true, false}
 use mathlib.Core.List.{List, [], _∷_, _++_}
-use Prim.Native.Nat.{ℕ, _≤_}
+use Prim.Native.Nat.{ℕ, _+_, _-_, _≤_}
 use Prim.Native.Char.{code}
+use lib.Dec.{eqb}
 use lib.IntN.{ℤ}
-use lib.ListN.{replicate}
+use lib.ListN.{length, replicate}
 use Rattle.base.specs.If.{if_then_else_}
 use Rattle.expansion.specs.declared.Base.{Base}
 use Rattle.expansion.specs.Print.{digits, sign, numeral}
@@ -21,6 +22,20 @@ unfoldable pub front : Bool → Bool → ℕ → List ℕ
 front minus zeros missing =
     if zeros then minusSign minus ++ replicate missing (code "0") else replicate missing (code " ") ++ minusSign minus
 
+-- what stands before so many digits in a width
+unfoldable pub before : Bool → Bool → ℕ → ℕ → List ℕ
+before minus zeros width count = front minus zeros (width - (count + length (minusSign minus)))
+
+-- nothing stands before the digits
+abbrev pub isPlain : Bool → ℕ → Bool
+isPlain minus width = if minus then false else eqb width 0
+
+-- the bytes of n in a width
+abbrev pub bytesOf : Numeral → Bool → ℕ → List ℕ
+bytesOf n zeros width =
+    let ds : List ℕ = digits (n .radix) (n .letters) (n .magnitude) in
+    before (n .minus) zeros width (length ds) ++ ds
+
 -- n is what v is printed from in a base
 pub record NumeralOf (base : Base) (v : ℤ) (n : Numeral) : Type 0 where
   pub sign-is : sign base v ≡ minusSign (n .minus)
@@ -29,9 +44,3 @@ pub record NumeralOf (base : Base) (v : ℤ) (n : Numeral) : Type 0 where
   pub radix-most : n .radix ≤ 16
   pub letters-most : n .letters ≤ code "a"
   pub decimal-letters : n .radix ≡ 10 → n .letters ≡ code "a"
-
--- n is printed as decimal digits alone
-pub record Plain (n : Numeral) (width : ℕ) : Type 0 where
-  pub no-width : width ≡ 0
-  pub no-sign : n .minus ≡ false
-  pub decimal : n .radix ≡ 10

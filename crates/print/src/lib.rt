@@ -1,15 +1,15 @@
 // Numbers and bytes put into a buffer where they fit (document 01: Expansion). Proved: the length and the bytes are
-// those of `printed` and `emitted` of expansion/specs. Assumed: nothing.
+// those of `printed` of expansion/specs, put as `emitted` of specs/ says. Assumed: nothing.
 ghost use mathlib.Core.Path.{_≡_};
-ghost use mathlib.Core.Bool.{true};
 ghost use mathlib.Core.List.{[], _∷_};
 ghost use Prim.Native.Nat.{ℕ, _+_, _-_, _≤_, _<_};
 ghost use lib.ListN.{length, replicate};
 ghost use Rattle.base.specs.Overwrite.{putAt};
 ghost use Rattle.print.specs.Bounds.{printedMost, outputMost};
 ghost use Rattle.expansion.specs.Print.{digitByte, digits, printed};
-ghost use Rattle.print.specs.Emit.{emitted};
-ghost use Rattle.print.specs.Numeral.{minusSign, front, NumeralOf, Plain};
+ghost use Rattle.decimals.specs.Decimals.{decimalDigits};
+ghost use Rattle.print.specs.Emit.{emitted, begun};
+ghost use Rattle.print.specs.Numeral.{minusSign, front, before, isPlain, bytesOf, NumeralOf};
 use expansion::Base;
 
 // What a value is printed from: its sign and its magnitude, with the base's radix and its first letter.
@@ -63,7 +63,7 @@ fn numeral_of(base: Base, value: i32) -> Numeral
     }
 }
 
-// How many digits a number has.
+// How many digits a number has in a base.
 fn count_digits(n: u32, radix: u32) -> usize
     requires { ⌜ (2 ≤ radix) × (radix ≤ 16) ⌝ }
     ensures { λ r. ⌜ ((letters : ℕ) → r ≡ length (digits radix letters n)) ⌝ }
@@ -77,22 +77,6 @@ fn count_digits(n: u32, radix: u32) -> usize
         count += 1;
     }
     count
-}
-
-// Decimal digits, the last of them before a place.
-fn put_digits(out: &mut [u8], end: usize, n: u32)
-    requires { ⌜ (length (digits 10 97 n) ≤ end) × (end ≤ length (now out)) ⌝ }
-    ensures { λ _. ⌜ now (out .exit) ≡ putAt (now (out .entry)) (end - length (digits 10 97 n)) (digits 10 97 n) ⌝ }
-{
-    let mut at = end;
-    let mut left = n;
-    while left >= 10 {
-        at -= 1;
-        out[at] = 48 + (left % 10) as u8;
-        left = left / 10;
-    }
-    at -= 1;
-    out[at] = 48 + left as u8;
 }
 
 fn digit_byte(letters: u8, digit: u32) -> u8
@@ -177,34 +161,83 @@ fn missing_of(width: u8, length: usize) -> usize
     if length < w { w - length } else { 0 }
 }
 
-// Whether a numeral is printed as decimal digits alone.
-fn is_plain(n: Numeral, width: u8) -> bool
-    ensures { λ r. ⌜ (r ≡ true → Plain n width) ⌝ }
+// Puts what stands before so many digits where they fit behind it, and gives its length in any case.
+fn put_before(out: &mut [u8], at: usize, minus: bool, zero: bool, width: u8, count: usize) -> usize
+    requires { ⌜ (at ≤ outputMost) × (count ≤ 32) ⌝ }
+    ensures { λ r. ⌜ (r ≡ length (before minus zero width count))
+        × (now (out .exit) ≡ begun (now (out .entry)) at (before minus zero width count) count) ⌝ }
 {
-    if width != 0 {
-        return false;
+    let sign = sign_length(minus);
+    let missing = missing_of(width, count + sign);
+    if out.len() < at + (sign + missing + count) {
+        return sign + missing;
     }
-    if n.minus {
-        return false;
-    }
-    if n.radix != 10 {
-        return false;
-    }
-    true
+    put_front(out, at, minus, zero, missing);
+    sign + missing
 }
 
-// Puts decimal digits where they fit, and gives their length in any case.
-fn put_plain(out: &mut [u8], at: usize, n: u32) -> usize
-    requires { ⌜ at ≤ outputMost ⌝ }
-    ensures { λ r. ⌜ (r ≡ length (digits 10 97 n)) × (r ≤ printedMost)
-        × (now (out .exit) ≡ emitted (now (out .entry)) at (digits 10 97 n)) ⌝ }
+// Whether nothing stands before the digits.
+fn is_plain(minus: bool, width: u8) -> bool
+    ensures { λ r. ⌜ r ≡ isPlain minus width ⌝ }
 {
-    let count = count_digits(n, 10);
+    if minus {
+        return false;
+    }
+    width == 0
+}
+
+// What `put_before` does, for decimal digits; at once where nothing stands before them.
+fn put_before_decimal(
+    out: &mut [u8],
+    at: usize,
+    minus: bool,
+    zero: bool,
+    width: u8,
+    n: u32,
+) -> usize
+    requires { ⌜ at ≤ outputMost ⌝ }
+    ensures { λ r. ⌜ (r ≡ length (before minus zero width (length (decimalDigits n))))
+        × (now (out .exit) ≡ begun (now (out .entry)) at (before minus zero width (length (decimalDigits n)))
+        (length (decimalDigits n))) ⌝ }
+{
+    if is_plain(minus, width) {
+        return 0;
+    }
+    put_before(out, at, minus, zero, width, decimals::count(n))
+}
+
+// Puts decimal digits where they fit, and gives their count in any case.
+fn put_decimal(out: &mut [u8], at: usize, n: u32) -> usize
+    requires { ⌜ at ≤ outputMost + printedMost ⌝ }
+    ensures { λ r. ⌜ (r ≡ length (decimalDigits n))
+        × (now (out .exit) ≡ emitted (now (out .entry)) at (decimalDigits n)) ⌝ }
+{
+    if n < 10 {
+        put_byte(out, at, 48 + n as u8);
+        return 1;
+    }
+    let count = decimals::count(n);
     if out.len() < at + count {
         return count;
     }
-    put_digits(out, at + count, n);
+    decimals::put(out, at + count, n, count);
     count
+}
+
+// Puts a numeral of any base, a digit at a time, where it fits, and gives its length in any case.
+fn put_by_digit(out: &mut [u8], at: usize, n: Numeral, zero: bool, width: u8) -> usize
+    requires { ⌜ (2 ≤ n .radix) × ((n .radix ≤ 16) × ((n .letters ≤ 97) × (at ≤ outputMost))) ⌝ }
+    ensures { λ r. ⌜ (r ≡ length (bytesOf n zero width))
+        × (now (out .exit) ≡ emitted (now (out .entry)) at (bytesOf n zero width)) ⌝ }
+{
+    let count = count_digits(n.magnitude, n.radix);
+    let before = put_before(out, at, n.minus, zero, width, count);
+    let total = before + count;
+    if out.len() < at + total {
+        return total;
+    }
+    put_in_base(out, at + total, n.magnitude, n.radix, n.letters);
+    total
 }
 
 // Puts a number in a base where it fits, and gives its length in any case.
@@ -214,22 +247,11 @@ pub fn put_number(out: &mut [u8], at: usize, base: Base, zero: bool, width: u8, 
         × (now (out .exit) ≡ emitted (now (out .entry)) at (printed base zero width value)) ⌝ }
 {
     let n = numeral_of(base, value);
-    if is_plain(n, width) {
-        return put_plain(out, at, n.magnitude);
+    if n.radix != 10 {
+        return put_by_digit(out, at, n, zero, width);
     }
-    let body = count_digits(n.magnitude, n.radix) + sign_length(n.minus);
-    let missing = missing_of(width, body);
-    let total = body + missing;
-    if out.len() < at + total {
-        return total;
-    }
-    put_front(out, at, n.minus, zero, missing);
-    if n.radix == 10 {
-        put_digits(out, at + total, n.magnitude);
-    } else {
-        put_in_base(out, at + total, n.magnitude, n.radix, n.letters);
-    }
-    total
+    let before = put_before_decimal(out, at, n.minus, zero, width, n.magnitude);
+    before + put_decimal(out, at + before, n.magnitude)
 }
 
 // Puts a byte at a place where it fits.

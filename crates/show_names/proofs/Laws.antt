@@ -22,7 +22,7 @@ use Rattle.edition.specs.declared.Place.{Place}
 use Rattle.edition.specs.Edition.{knows}
 use Rattle.names.specs.Names.{ascii, parted, named, booleanNames, numberNames, stringNames, namesOf}
 use Rattle.names.specs.Naming.{packed, beforeNul, unpacked, naming}
-use Rattle.print.proofs.DigitLaws.{digits-one, digits-more}
+use Rattle.expansion_laws.specs.Digits.{digits-one, digits-more}
 use Rattle.shown.specs.Puts.{Puts}
 use Rattle.shown.proofs.PutsLaws.{puts-most, puts-then}
 use Rattle.ti_files.proofs.Laws.{digits-most}

@@ -7,7 +7,7 @@ use native.Mathlib.Numerals.{add-one}
 use native.Mathlib.Omega.{arith}
 use lib.ListN.{length}
 use Rattle.expansion.specs.Print.{digits}
-use Rattle.print.proofs.DigitLaws.{power-one, digits-some, digits-above, digits-below, digits-word}
+use Rattle.expansion_laws.specs.DigitCount.{power-one, digits-some, digits-above, digits-below, digits-word}
 use Rattle.signed.proofs.Laws.{below}
 use Rattle.print.proofs.count_digits.Statement.{statement}
 use Rattle.print.proofs.count_digits.Tie as tie
