@@ -1,7 +1,7 @@
--- Laws that the proofs cite: lines from their runs, the counts of an edition.
+-- Laws that the proofs cite: the length of a part, the counts of an edition, the list that has the k-th capability.
 -- Assumes nothing.
-use mathlib.Core.Path.{_≡_, refl, sym, ap, _∙_}
-use mathlib.Core.List.{List, [], _∷_, _++_, append-assoc}
+use mathlib.Core.Path.{_≡_, sym}
+use mathlib.Core.List.{List, []}
 use Prim.Native.Nat.{ℕ, _+_, _-_, _≤_, _<_}
 use native.Mathlib.Omega.{arith}
 use lib.ListN.{length, length-take, length-drop}
@@ -15,26 +15,8 @@ use Rattle.entry.specs.Asking.{Opening, opening}
 use Rattle.entry_laws.specs.Accepted.{test-passed}
 use Rattle.entry_laws.specs.Merge.{edition-counts}
 use Rattle.states.specs.Held.{IsPart}
-use Rattle.shown.specs.Puts.{Puts, Holds}
-use Rattle.shown.proofs.PutsLaws.{counted, puts-then}
-use Rattle.show_lines.specs.Lines.{booleanLine, numberLine, stringLine, capabilityLine}
-
--- ---- lines
-
--- a name and a sign, and what stands behind them
-pub named-puts : {b₀ b₁ b₂ : List ℕ} (name : List ℕ) (sign : ℕ) {ys : List ℕ} {m n middle end : ℕ} → Puts b₀ b₁ 0 (name ++ (sign ∷ [])) m middle → Puts b₁ b₂ middle ys n end
-    → m + n ≤ length b₀ → Puts b₀ b₂ 0 (name ++ (sign ∷ ys)) (m + n) end
-named-puts name sign {ys} p q h = rw (append-assoc name (sign ∷ []) ys) at (puts-then p q (omega arith))
-
--- words, and three numbers each with a text behind it
-pub counts-puts : {b₀ b₁ b₂ b₃ b₄ t : List ℕ} (d₁ t₁ d₂ t₂ d₃ t₃ : List ℕ) {m m₁ m₂ m₃ e₁ e₂ e₃ e₄ : ℕ} → Puts b₀ b₁ 0 t m e₁ → Puts b₁ b₂ e₁ (d₁ ++ t₁) m₁ e₂
-    → Puts b₂ b₃ e₂ (d₂ ++ t₂) m₂ e₃ → Puts b₃ b₄ e₃ (d₃ ++ t₃) m₃ e₄ → ((m + m₁) + m₂) + m₃ ≤ length b₀
-    → Puts b₀ b₄ 0 (t ++ (d₁ ++ (t₁ ++ (d₂ ++ (t₂ ++ (d₃ ++ t₃)))))) (((m + m₁) + m₂) + m₃) e₄
-counts-puts d₁ t₁ d₂ t₂ d₃ t₃ p q r s h = simp append-assoc at (puts-then (puts-then (puts-then p q (omega arith)) r (omega arith)) s (omega arith))
-
--- no byte
-pub holds-none : (b : List ℕ) → Holds 0 b []
-holds-none b = (refl, counted 0 b (omega arith))
+use Rattle.number_lines.specs.Numbers.{numberLine}
+use Rattle.show_lines.specs.Lines.{booleanLine, stringLine, capabilityLine}
 
 -- what lies in a file is no longer than the file
 pub part-short : {whole part : RefT (List ℕ)} {p : Part} → IsPart whole part p → length (now part) ≤ length (now whole)

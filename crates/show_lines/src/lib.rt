@@ -1,6 +1,5 @@
-// The lines that show a compiled file in an edition: its names, the edition, each capability, the slots beyond the
-// edition. The caller opens the file, once for all lines. Proved: each line is the one of specs/Lines.antt. Assumed:
-// nothing.
+// The lines that show a compiled file in an edition: its names and each capability. The caller opens the file, once
+// for all lines. Proved: each line is the one of specs/Lines.antt. Assumed: nothing.
 ghost use mathlib.Core.Path.{_≡_};
 ghost use mathlib.Core.List.{_∷_, _++_};
 ghost use Prim.Native.Nat.{_+_, _*_, _≤_};
@@ -9,20 +8,19 @@ ghost use Rattle.entry.specs.Asking.{opening, askingNames};
 ghost use Rattle.entry.specs.Says.{saysOpened, saysNames};
 ghost use Rattle.shown.specs.Puts.{Puts, Holds};
 ghost use Rattle.shown.specs.Shown.{shown};
-ghost use Rattle.show_names.specs.Naming.{decimal, nameOf};
-ghost use Rattle.show_lines.specs.Lines.{lineEnd, lineRoom, countsLine, booleanLine, numberLine, stringLine};
-ghost use Rattle.show_lines.specs.Lines.{capabilityLine, countIn, foundLine, namesLine, editionLine, beyondLine};
+ghost use Rattle.show_names.specs.Line.{lineEnd, lineRoom};
+ghost use Rattle.show_names.specs.Naming.{nameOf};
+ghost use Rattle.show_lines.specs.Lines.{booleanLine, stringLine, capabilityLine, countIn, foundLine, namesLine};
 use edition::Edition;
 use edition::Kind;
 use edition::Place;
 use entry::BooleanState;
 use entry::Names;
-use entry::NumberState;
 use entry::Opened;
 use entry::StringState;
 use names::Found;
+use number_lines::number_line;
 use show_names::put_named;
-use show_names::put_number;
 use show_names::put_text;
 use shown::CONTENT_LEAST;
 use shown::NAMES_LEAST;
@@ -37,16 +35,6 @@ fn put_shown(out: &mut [u8], at: usize, least: u8, bytes: &[u8]) -> usize
     put_text(out, end, b"\n")
 }
 
-// Puts the line of a number's value.
-fn put_value(out: &mut [u8], place: Place, n: u32) -> usize
-    requires { ⌜ 50 ≤ length (now out) ⌝ }
-    ensures { λ r. ⌜ Puts (now (out .entry)) (now (out .exit)) 0
-        (nameOf Kind.Number place ++ (35 ∷ (decimal n ++ lineEnd))) 50 r ⌝ }
-{
-    let at = put_named(out, Kind::Number, place, b"#");
-    put_number(out, at, n as u64, b"\n")
-}
-
 // Puts the line of a string's content.
 fn put_content(out: &mut [u8], place: Place, content: &[u8]) -> usize
     requires { ⌜ 29 + (4 * length (now content) + 1) ≤ length (now out) ⌝ }
@@ -56,24 +44,6 @@ fn put_content(out: &mut [u8], place: Place, content: &[u8]) -> usize
 {
     let at = put_named(out, Kind::String, place, b"=");
     put_shown(out, at, CONTENT_LEAST, content)
-}
-
-// Puts words, and a count for each list.
-fn put_counts(
-    out: &mut [u8],
-    words: &[u8],
-    booleans: usize,
-    numbers: usize,
-    strings: usize,
-) -> usize
-    requires { ⌜ length (now words) + 90 ≤ length (now out) ⌝ }
-    ensures { λ r. ⌜ Puts (now (out .entry)) (now (out .exit)) 0
-        (countsLine (now (words .entry)) booleans numbers strings) (length (now (words .entry)) + 90) r ⌝ }
-{
-    let a = put_text(out, 0, words);
-    let b = put_number(out, a, booleans as u64, b" booleans, ");
-    let c = put_number(out, b, numbers as u64, b" numbers, ");
-    put_number(out, c, strings as u64, b" strings\n")
 }
 
 // The line of the boolean at a place.
@@ -92,19 +62,6 @@ fn boolean_line(
         BooleanState::Cancelled => put_named(out, Kind::Boolean, place, b"@\n"),
         BooleanState::Absent => 0,
         BooleanState::Refused => 0,
-    }
-}
-
-// The line of the number at a place.
-fn number_line(file: &[u8], edition: Edition, opened: Opened, place: Place, out: &mut [u8]) -> usize
-    requires { ⌜ (lineRoom (now file) ≤ length (now out)) × (saysOpened opened ≡ opening edition (now file)) ⌝ }
-    ensures { λ r. ⌜ Holds r (now (out .exit)) (numberLine edition (now (file .entry)) place) ⌝ }
-{
-    match opened_file::number_if_opened(file, edition, opened, place) {
-        NumberState::Present(n) => put_value(out, place, n),
-        NumberState::Cancelled => put_named(out, Kind::Number, place, b"@\n"),
-        NumberState::Absent => 0,
-        NumberState::Refused => 0,
     }
 }
 
@@ -198,38 +155,5 @@ pub fn names_line(file: &[u8], edition: Edition, opened: Opened, out: &mut [u8])
             put_shown(out, at, NAMES_LEAST, names)
         }
         Names::Refused => put_text(out, at, b"\n"),
-    }
-}
-
-// The line of the edition.
-pub fn edition_line(edition: Edition, out: &mut [u8]) -> usize
-    requires { ⌜ 128 ≤ length (now out) ⌝ }
-    ensures { λ r. ⌜ Holds r (now (out .exit)) (editionLine edition) ⌝ }
-{
-    put_counts(
-        out,
-        b"edition: ",
-        edition.booleans,
-        edition.numbers,
-        edition.strings,
-    )
-}
-
-// The line of the slots beyond the edition.
-pub fn beyond_line(file: &[u8], edition: Edition, opened: Opened, out: &mut [u8]) -> usize
-    requires { ⌜ (lineRoom (now file) ≤ length (now out)) × (saysOpened opened ≡ opening edition (now file)) ⌝ }
-    ensures { λ r. ⌜ Holds r (now (out .exit)) (beyondLine edition (now (file .entry))) ⌝ }
-{
-    match opened {
-        Opened::Entry(_, beyond) => {
-            put_counts(
-                out,
-                b"beyond the edition: ",
-                beyond.booleans,
-                beyond.numbers,
-                beyond.strings,
-            )
-        }
-        Opened::Refused(_) => 0,
     }
 }

@@ -1,7 +1,8 @@
 // `ti show [-e EDITION] FILE [CAPABILITY]..`: shows a compiled file in an edition, through the library only: its
 // names, the edition, each capability that is not absent, a line each, in list order, and how many slots lie beyond
 // the edition; or the capabilities that are named. Proved: it is safe and ends; each line is the one of
-// show_lines/specs, in the edition that the file was opened in. Assumed: what libc and os say of C.
+// show_lines/specs or count_lines/specs, in the edition that the file was opened in. Assumed: what libc and os say of
+// C.
 ghost use mathlib.Core.Path.{_≡_};
 ghost use Prim.Native.Nat.{_≤_};
 ghost use lib.ListN.{length};
@@ -50,7 +51,7 @@ fn say_names(file: &[u8], edition: Edition, opened: Opened) -> bool
 
 fn say_edition(edition: Edition) -> bool {
     let mut line = [0u8; LINE_ROOM];
-    let n = show_lines::edition_line(edition, &mut line);
+    let n = count_lines::edition_line(edition, &mut line);
     say(&line[..n])
 }
 
@@ -79,7 +80,7 @@ fn say_beyond(file: &[u8], edition: Edition, opened: Opened) -> bool
     requires { ⌜ (length (now file) ≤ fileRoom) × (saysOpened opened ≡ opening edition (now file)) ⌝ }
 {
     let mut line = [0u8; LINE_ROOM];
-    let n = show_lines::beyond_line(file, edition, opened, &mut line);
+    let n = count_lines::beyond_line(file, edition, opened, &mut line);
     say(&line[..n])
 }
 

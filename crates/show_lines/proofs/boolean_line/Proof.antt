@@ -6,7 +6,7 @@ use denote.Ref.{now}
 use Rattle.entry.specs.Says.{saysBoolean}
 use Rattle.shown.proofs.PutsLaws.{puts-first}
 use Rattle.show_lines.specs.Lines.{booleanLine}
-use Rattle.show_lines.proofs.Laws.{holds-none}
+use Rattle.show_names.proofs.LineLaws.{holds-none}
 use borrow.Author.Needs.{needs}
 use Rattle.show_lines.proofs.boolean_line.Statement.{statement}
 use Rattle.show_lines.proofs.boolean_line.Tie as tie

@@ -1,7 +1,7 @@
 -- `show_lines::found_line` meets its contract, by what was found.
 -- Assumes nothing.
 use denote.Ref.{now}
-use Rattle.show_lines.proofs.Laws.{holds-none}
+use Rattle.show_names.proofs.LineLaws.{holds-none}
 use borrow.Author.Needs.{needs}
 use Rattle.show_lines.proofs.found_line.Statement.{statement}
 use Rattle.show_lines.proofs.found_line.Tie as tie

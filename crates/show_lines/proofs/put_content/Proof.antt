@@ -2,7 +2,7 @@
 -- Assumes nothing.
 use Rattle.edition.specs.declared.Kind.the-variants as Kinds
 use Rattle.show_names.specs.Naming.{nameOf}
-use Rattle.show_lines.proofs.Laws.{named-puts}
+use Rattle.show_names.proofs.LineLaws.{named-puts}
 use borrow.Author.Needs.{needs}
 use Rattle.show_lines.proofs.put_content.Statement.{statement}
 use Rattle.show_lines.proofs.put_content.Tie as tie

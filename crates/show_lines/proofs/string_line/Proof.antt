@@ -7,7 +7,8 @@ use Rattle.entry.specs.Says.{saysString}
 use Rattle.opened_file.proofs.Laws.{string-inside}
 use Rattle.shown.proofs.PutsLaws.{puts-first}
 use Rattle.show_lines.specs.Lines.{stringLine}
-use Rattle.show_lines.proofs.Laws.{holds-none, part-short}
+use Rattle.show_names.proofs.LineLaws.{holds-none}
+use Rattle.show_lines.proofs.Laws.{part-short}
 use borrow.Author.Needs.{needs}
 use Rattle.show_lines.proofs.string_line.Statement.{statement}
 use Rattle.show_lines.proofs.string_line.Tie as tie

@@ -1,11 +1,11 @@
--- `show_lines::edition_line` meets its contract: words, and the edition's counts.
+-- `count_lines::edition_line` meets its contract: words, and the edition's counts.
 -- Assumes nothing.
 use native.Mathlib.Omega.{arith}
 use borrow.Author.Needs.{needs}
 use Rattle.names.specs.Names.{ascii}
 use Rattle.shown.proofs.PutsLaws.{puts-first}
-use Rattle.show_lines.proofs.edition_line.Statement.{statement}
-use Rattle.show_lines.proofs.edition_line.Tie as tie
+use Rattle.count_lines.proofs.edition_line.Statement.{statement}
+use Rattle.count_lines.proofs.edition_line.Tie as tie
 
 slice-aggregate-put-counts : tie.Need-slice-aggregate-put-counts
 slice-aggregate-put-counts c = search needs

@@ -1,15 +1,16 @@
--- `show_lines::put_counts` meets its contract: words, and three numbers each with a text behind it.
+-- `count_lines::put_counts` meets its contract: words, and three numbers each with a text behind it.
 -- Assumes nothing.
 use mathlib.Core.List.{_++_}
 use native.Mathlib.Omega.{arith}
 use Rattle.names.specs.Names.{ascii}
 use Rattle.shown.proofs.PutsLaws.{puts-most}
 use Rattle.show_names.specs.Naming.{decimal}
-use Rattle.show_lines.specs.Lines.{lineEnd, countsLine}
-use Rattle.show_lines.proofs.Laws.{counts-puts}
+use Rattle.show_names.specs.Line.{lineEnd}
+use Rattle.count_lines.specs.Counts.{countsLine}
+use Rattle.count_lines.proofs.Laws.{counts-puts}
 use borrow.Author.Needs.{needs}
-use Rattle.show_lines.proofs.put_counts.Statement.{statement}
-use Rattle.show_lines.proofs.put_counts.Tie as tie
+use Rattle.count_lines.proofs.put_counts.Statement.{statement}
+use Rattle.count_lines.proofs.put_counts.Tie as tie
 
 put-text-requires : tie.Need-put-text-requires
 put-text-requires c κs = search needs

@@ -1,11 +1,11 @@
--- `show_lines::put_value` meets its contract: a name with its sign, and a number behind it.
+-- `number_lines::put_value` meets its contract: a name with its sign, and a number behind it.
 -- Assumes nothing.
 use Rattle.edition.specs.declared.Kind.the-variants as Kinds
 use Rattle.show_names.specs.Naming.{nameOf}
-use Rattle.show_lines.proofs.Laws.{named-puts}
+use Rattle.show_names.proofs.LineLaws.{named-puts}
 use borrow.Author.Needs.{needs}
-use Rattle.show_lines.proofs.put_value.Statement.{statement}
-use Rattle.show_lines.proofs.put_value.Tie as tie
+use Rattle.number_lines.proofs.put_value.Statement.{statement}
+use Rattle.number_lines.proofs.put_value.Tie as tie
 
 slice-aggregate-put-named : tie.Need-slice-aggregate-put-named
 slice-aggregate-put-named c = search needs

@@ -1,4 +1,4 @@
--- `show_lines::beyond_line` meets its contract, by what opening answers.
+-- `count_lines::beyond_line` meets its contract, by what opening answers.
 -- Assumes nothing.
 use mathlib.Core.Path.{sym, ap, _∙_}
 use native.Mathlib.Omega.{arith}
@@ -6,11 +6,11 @@ use denote.Ref.{now}
 use Rattle.entry.specs.Says.{saysOpened}
 use Rattle.names.specs.Names.{ascii}
 use Rattle.shown.proofs.PutsLaws.{puts-first}
-use Rattle.show_lines.specs.Lines.{beyondLine}
-use Rattle.show_lines.proofs.Laws.{holds-none}
+use Rattle.count_lines.specs.Counts.{beyondLine}
+use Rattle.show_names.proofs.LineLaws.{holds-none}
 use borrow.Author.Needs.{needs}
-use Rattle.show_lines.proofs.beyond_line.Statement.{statement}
-use Rattle.show_lines.proofs.beyond_line.Tie as tie
+use Rattle.count_lines.proofs.beyond_line.Statement.{statement}
+use Rattle.count_lines.proofs.beyond_line.Tie as tie
 
 enum-known-opened : tie.Need-enum-known-opened
 enum-known-opened c = search needs

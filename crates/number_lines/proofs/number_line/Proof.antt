@@ -1,15 +1,15 @@
--- `show_lines::number_line` meets its contract, by the state.
+-- `number_lines::number_line` meets its contract, by the state.
 -- Assumes nothing.
 use mathlib.Core.Path.{sym, ap, _∙_}
 use native.Mathlib.Omega.{arith}
 use denote.Ref.{now}
 use Rattle.entry.specs.Says.{saysNumber}
 use Rattle.shown.proofs.PutsLaws.{puts-first}
-use Rattle.show_lines.specs.Lines.{numberLine}
-use Rattle.show_lines.proofs.Laws.{holds-none}
+use Rattle.number_lines.specs.Numbers.{numberLine}
+use Rattle.show_names.proofs.LineLaws.{holds-none}
 use borrow.Author.Needs.{needs}
-use Rattle.show_lines.proofs.number_line.Statement.{statement}
-use Rattle.show_lines.proofs.number_line.Tie as tie
+use Rattle.number_lines.proofs.number_line.Statement.{statement}
+use Rattle.number_lines.proofs.number_line.Tie as tie
 
 number-if-opened-requires : tie.Need-number-if-opened-requires
 number-if-opened-requires c κs = c .before .before .pre .1
