@@ -7,6 +7,7 @@ use Prim.Native.Nat.{ℕ, zero, suc, _+_, _-_, _≤_, _<_}
 use lib.ListN.{length, getD, take, drop}
 use Rattle.base.specs.Answer.{Answer, refused, gives}
 use Rattle.edition.specs.declared.Edition.{Edition}
+use Rattle.uses.specs.Targets.{noTarget}
 use Rattle.text.specs.declared.Header.the-variants as H
 use Rattle.text.specs.Strings.{readAt, readBytes}
 use Rattle.text.specs.Heading.{namesTo, headerAt}
@@ -77,9 +78,9 @@ pub record UsesListed (starts places : List ℕ) (count : ℕ) (ds : List Descri
 abbrev pub usedName : List ℕ → ℕ → List ℕ
 usedName t p = readBytes (readAt t (p + 4))
 
--- the description that has a name; 255 where none has it
+-- the description that has a name, as the targets hold it
 abbrev pub targetOf : Having → ℕ
-targetOf nobody = 255
+targetOf nobody = noTarget
 targetOf (numbered d) = d
 
 -- the first n uses lead where the targets say

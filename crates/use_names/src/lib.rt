@@ -18,9 +18,7 @@ ghost use Rattle.use_names.specs.Searched.{BarFrom, FoundFrom};
 ghost use Rattle.use_names.specs.Hashed.{hashesCount, hashMore, hashOf, Firsts, Enters};
 use text::ALIAS_MOST;
 use used_name::Used;
-
-// The target of a use whose name no description has.
-const NO_TARGET: u8 = 255;
+use uses::NO_TARGET;
 
 // How many hashes there are.
 const HASHES: usize = 4096;
@@ -171,7 +169,7 @@ fn enter_all(text: &[u8], heads: &[usize], commas: &[usize], count: usize, first
     }
 }
 
-// The number of the description that has a name, or 255.
+// The number of the description that has a name, or NO_TARGET.
 fn target_of(
     text: &[u8],
     heads: &[usize],
@@ -216,7 +214,7 @@ fn target_at(
     }
 }
 
-// Where the first of the uses lead, as many as there are: to the description that has the name, or 255.
+// Where the first of the uses lead, as many as there are: to the description that has the name, or NO_TARGET.
 pub fn resolve(
     text: &[u8],
     heads: &[usize],

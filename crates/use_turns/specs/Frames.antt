@@ -8,14 +8,15 @@ use lib.ListN.{length, getD, set}
 use Rattle.base.specs.If.{if_then_else_}
 use Rattle.base.specs.Answer.{Answer}
 use Rattle.uses.specs.Walk.{Use, missing, found, Graph}
-use Rattle.uses.specs.Heights.{Kept, unfinished, height, Heights}
+use Rattle.uses.specs.Targets.{noTarget}
+use Rattle.uses.specs.Heights.{Kept, unfinished, height, Heights, unfinishedHeight}
 use Rattle.uses.specs.Fast.{Met}
 use Rattle.uses.specs.Machine.{Frame, frame, resume}
 
 -- ---- the uses
 
 -- the uses of description d are those from starts[d] up to starts[d + 1], each with the place of its field and its
--- target; a target of 255 is a name that no description has
+-- target
 pub record UseArrays : Type 0 where
   pub starts : List ℕ
   pub places : List ℕ
@@ -29,7 +30,7 @@ useArrays starts places targets count =
 
 abbrev pub useAt : (places targets : List ℕ) → ℕ → Use
 useAt places targets i =
-    if eqb (getD targets i 0) 255 then missing (getD places i 0) else found (getD places i 0) (getD targets i 0)
+    if eqb (getD targets i 0) noTarget then missing (getD places i 0) else found (getD places i 0) (getD targets i 0)
 
 -- k uses from the i-th on
 unfoldable pub usesFrom : (places targets : List ℕ) → ℕ → ℕ → List Use
@@ -54,13 +55,12 @@ pub record HoldsUses (u : UseArrays) : Type 0 where
   pub inside : (d : ℕ) → d < u .count → endOf u d ≤ getD (u .starts) (u .count) 0
   pub targeted : getD (u .starts) (u .count) 0 ≤ length (u .targets)
   pub placed : getD (u .starts) (u .count) 0 ≤ length (u .places)
-  pub known : (i : ℕ) → i < getD (u .starts) (u .count) 0 → (getD (u .targets) i 0 ≡ 255 → ⊥)
+  pub known : (i : ℕ) → i < getD (u .starts) (u .count) 0 → (getD (u .targets) i 0 ≡ noTarget → ⊥)
       → getD (u .targets) i 0 < u .count
 
 -- ---- the open descriptions and the heights
 
--- the open descriptions are the first `depth` of the stack, each with its next use; 255 is the height of what is not
--- finished
+-- the open descriptions are the first `depth` of the stack, each with its next use
 pub record Frames : Type 0 where
   pub stack : List ℕ
   pub next : List ℕ
@@ -104,10 +104,10 @@ pub record Framed (u : UseArrays) (o : Frames) : Type 0 where
   pub within : (j : ℕ) → j < o .depth → getD (o .next) j 0 ≤ endOf u (getD (o .stack) j 0)
 
 abbrev pub keptAs : ℕ → Kept
-keptAs x = if ltb x 255 then height x else unfinished
+keptAs x = if ltb x unfinishedHeight then height x else unfinished
 
 abbrev pub heightsOf : List ℕ → Heights
-heightsOf hs d = keptAs (getD hs d 255)
+heightsOf hs d = keptAs (getD hs d unfinishedHeight)
 
 abbrev pub metOf : {S : Type 0} → List ℕ → S → Met S
 metOf hs s = record { heights = heightsOf hs; state = s }
@@ -123,7 +123,7 @@ resumeAt put u o s =
 pub record LeadsTo (u : UseArrays) (o : Frames) (t : ℕ) : Type 0 where
   pub more : nextOf o < endOf u (lastOf o)
   pub target : t ≡ getD (u .targets) (nextOf o) 0
-  pub there : t ≡ 255 → ⊥
+  pub there : t ≡ noTarget → ⊥
 
 -- the last open description is finished, with its height
 abbrev pub finished : Frames → ℕ → Frames

@@ -2,15 +2,16 @@
 // walk is finished is passed over if the chain can take its height. Proved: what is left of the walk, as `resume` of
 // uses/specs says, is the same from each turn to the next. Assumed: nothing.
 //
-// The uses of description d, of `count`, stand from `starts[d]` up to `starts[d + 1]`; a target of 255 is a name that
-// no description has. The open descriptions, those being worked on, are the first `depth` of `stack`, each with its
-// next use in `next`. A finished description whose height the chain can't take is entered once more: the ninth use
-// stands below it.
+// The uses of description d, of `count`, stand from `starts[d]` up to `starts[d + 1]`; a target of NO_TARGET is a
+// name that no description has. The open descriptions, those being worked on, are the first `depth` of `stack`, each
+// with its next use in `next`. A finished description whose height the chain can't take is entered once more: the
+// ninth use stands below it.
 ghost use mathlib.Core.Path.{_≡_};
 ghost use mathlib.Core.List.{List};
 ghost use Prim.Native.Nat.{ℕ, _-_, _<_, _≤_};
 ghost use lib.ListN.{length, getD};
 ghost use Rattle.uses.specs.Walk.{isIn};
+ghost use Rattle.uses.specs.Targets.{noTarget};
 ghost use Rattle.uses.specs.Heights.{heightOf, low};
 ghost use Rattle.use_turns.specs.Frames.{useArrays, usesFrom, HoldsUses};
 ghost use Rattle.use_turns.specs.Frames.{frames, openOf, Framed, keptAs, heightsOf};
@@ -22,7 +23,7 @@ use text::TextRefusal;
 pub const OPEN_MOST: usize = 9;
 
 // The target of a use whose name no description has.
-const NOBODY: usize = 255;
+const NO_TARGET: usize = uses::NO_TARGET as usize;
 
 // The height of a description that is not finished.
 pub const UNFINISHED: usize = 255;
@@ -79,7 +80,7 @@ fn is_open(stack: &[usize; OPEN_MOST], depth: usize, d: usize) -> bool
 // not finished.
 fn height_of(targets: &[u8], from: usize, end: usize, heights: &[usize; DESCRIPTIONS_MOST]) -> usize
     requires { ⌜ (from ≤ end) × ((end ≤ length (now targets)) × ((length (now heights) ≡ 64)
-        × ((i : ℕ) → i < end → (getD (now targets) i 0 ≡ 255 → ⊥) → getD (now targets) i 0 < 64))) ⌝ }
+        × ((i : ℕ) → i < end → (getD (now targets) i 0 ≡ noTarget → ⊥) → getD (now targets) i 0 < 64))) ⌝ }
     ensures { λ r. ⌜ ((places : List ℕ) → keptAs r ≡ low (heightOf (heightsOf (now (heights .entry)))
         (usesFrom places (now (targets .entry)) from (end - from)))) ⌝ }
 {
@@ -87,7 +88,7 @@ fn height_of(targets: &[u8], from: usize, end: usize, heights: &[usize; DESCRIPT
     let mut i = from;
     while i < end {
         let target = wide(targets[i]);
-        if target == NOBODY {
+        if target == NO_TARGET {
             return UNFINISHED;
         }
         let x = heights[target];
@@ -127,7 +128,7 @@ fn next_use(
     let t = wide(targets[i]);
     let p = wide_place(places[i]);
     let is_circular = is_open(stack, depth, t);
-    if t == NOBODY {
+    if t == NO_TARGET {
         return Next::Refused(TextRefusal::NotFound, p);
     }
     if is_circular {

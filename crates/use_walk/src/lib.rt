@@ -2,8 +2,8 @@
 // to are kept once, and a description whose walk is finished is passed over if the chain can take its height. Proved:
 // `walk` comes to what `fast` of uses/specs gives, which is the plain recursion `built` there. Assumed: nothing.
 //
-// The uses of description d stand from `starts[d]` up to `starts[d + 1]`; a target of 255 is a name that no
-// description has.
+// The uses of description d stand from `starts[d]` up to `starts[d + 1]`; a target of NO_TARGET is a name that
+// no description has.
 ghost use mathlib.Core.List.{[]};
 ghost use Prim.Native.Nat.{_<_};
 ghost use lib.ListN.{length, getD};

@@ -13,7 +13,7 @@ use Rattle.base.proofs.IfLaws.{true-false, below-or}
 use Rattle.base.specs.Answer.{Answer, refused, gives, mapAnswer}
 use Rattle.uses.specs.Walk.{Use, missing, found, Graph, usesMost, isIn, bind}
 use Rattle.uses.specs.Heights.{Kept, unfinished, height, Heights, higher, heightOf, Right, low, Low, keep}
-use Rattle.uses.specs.Heights.{Above, fits}
+use Rattle.uses.specs.Heights.{Above, fits, unfinishedHeight}
 use Rattle.uses.specs.Finished.{height-inj, not-unfinished, higher-parts, Keeps, above-not-in, above-less}
 use Rattle.uses.specs.Fast.{Met, enter, finish, fastEach, fastFollow, start, fast}
 use Rattle.uses.specs.FastLaws.{keep-at, low-height, finish-keeps, finish-right, finish-low, Same, same-keep}
@@ -184,8 +184,8 @@ module _ (g : Graph) where
       by v true w q = true-false q
       by v false w q = once .known v w q
 
-  once-finish : (chain : List ℕ) (t : ℕ) (s : Log) (k : ℕ) → heightOf (s .heights) (g t) ≡ height k → k < 255
-      → isIn t chain ≡ false
+  once-finish : (chain : List ℕ) (t : ℕ) (s : Log) (k : ℕ) → heightOf (s .heights) (g t) ≡ height k
+      → k < unfinishedHeight → isIn t chain ≡ false
       → EachOnce (t ∷ chain) s → EachOnce chain (finish g t s)
   unfolding finish isIn
   once-finish chain t s k e l fresh once =
@@ -215,12 +215,12 @@ module _ (g : Graph) where
   unfolding enter finish
   keeps-finish chain t s m once ks d h w = finish-keeps g (m .heights) (once .right) (once .small) t d h (ks d h w)
 
-  top-finish : (t : ℕ) (m : Log) (k : ℕ) → heightOf (m .heights) (g t) ≡ height k → k < 255
+  top-finish : (t : ℕ) (m : Log) (k : ℕ) → heightOf (m .heights) (g t) ≡ height k → k < unfinishedHeight
       → (finish g t m) .heights t ≡ height k
   unfolding finish
   top-finish t m k e l = keep-at (m .heights) t (low (heightOf (m .heights) (g t))) ∙ (ap low e ∙ low-height k l)
 
-  pub follow-once : (left : ℕ) (chain : List ℕ) (p t : ℕ) (s r : Log) → left < 255 → EachOnce chain s
+  pub follow-once : (left : ℕ) (chain : List ℕ) (p t : ℕ) (s r : Log) → left < unfinishedHeight → EachOnce chain s
       → fastFollow logged g left chain (found p t) s ≡ gives r → Followed left chain t s r
   unfolding fastFollow fits
   follow-once zero chain p t s r l once e = by (isIn t chain) e

@@ -15,7 +15,7 @@ use Rattle.uses.specs.Walk.{Use, missing, found, Graph, usesMost, isIn, 
 use Rattle.uses.specs.Plain.{both, each, follow, walk, wanted}
 use Rattle.uses.specs.Once.{putAll, FirstStands, put-append, put-again, stays-all}
 use Rattle.uses.specs.Heights.{Kept, unfinished, height, Heights, heightOf, Right, low, Low, keep, Above}
-use Rattle.uses.specs.Heights.{Finished, fits}
+use Rattle.uses.specs.Heights.{Finished, fits, unfinishedHeight}
 use Rattle.uses.specs.Finished.{height-inj, not-unfinished, Keeps, heightOf-keeps, GivesFinished, walk-finished}
 use Rattle.uses.specs.Fast.{Met, enter, finish, fastEach, fastFollow, start, fast}
 
@@ -29,19 +29,19 @@ pub keep-other : (m : Heights) (d x : ℕ) (k : Kept) → eqb x d ≡ false → 
 unfolding keep
 keep-other m d x k e = rw e
 
-low-of : (k : Kept) (h : ℕ) → low k ≡ height h → (k ≡ height h) × (h < 255)
+low-of : (k : Kept) (h : ℕ) → low k ≡ height h → (k ≡ height h) × (h < unfinishedHeight)
 unfolding low
 low-of unfinished h e = not-unfinished h e
-low-of (height x) h e = by (ltb x 255) refl e
+low-of (height x) h e = by (ltb x unfinishedHeight) refl e
   where
-    by : (b : Bool) → ltb x 255 ≡ b → (if b then height x else unfinished) ≡ height h
-        → (height x ≡ height h) × (h < 255)
-    by true q p = let l = ltb-true x 255 q in let i = height-inj x h p in (p, omega arith)
+    by : (b : Bool) → ltb x unfinishedHeight ≡ b → (if b then height x else unfinished) ≡ height h
+        → (height x ≡ height h) × (h < unfinishedHeight)
+    by true q p = let l = ltb-true x unfinishedHeight q in let i = height-inj x h p in (p, omega arith)
     by false q p = not-unfinished h p
 
-pub low-height : (h : ℕ) → h < 255 → low (height h) ≡ height h
+pub low-height : (h : ℕ) → h < unfinishedHeight → low (height h) ≡ height h
 unfolding low
-low-height h l = rw (lt-ltb h 255 l)
+low-height h l = rw (lt-ltb h unfinishedHeight l)
 
 module _ (g : Graph) (m : Heights) (right : Right g m) (small : Low m) (d : ℕ) where
   -- what is kept with d finished
@@ -60,10 +60,10 @@ module _ (g : Graph) (m : Heights) (right : Right g m) (small : Low m) (d : ℕ)
       by false t = keep-other m d x (low (heightOf m (g d))) t ∙ e
 
   -- a height kept was kept before, or is that of d
-  finish-cases : (x h : ℕ) → kept x ≡ height h → (heightOf m (g x) ≡ height h) × (h < 255)
+  finish-cases : (x h : ℕ) → kept x ≡ height h → (heightOf m (g x) ≡ height h) × (h < unfinishedHeight)
   finish-cases x h e = by (eqb x d) refl
     where
-      by : (b : Bool) → eqb x d ≡ b → (heightOf m (g x) ≡ height h) × (h < 255)
+      by : (b : Bool) → eqb x d ≡ b → (heightOf m (g x) ≡ height h) × (h < unfinishedHeight)
       by true t =
           let q : x ≡ d = eqb-true x d t in
           let l = low-of (heightOf m (g d)) h (sym (keep-at m d (low (heightOf m (g d)))) ∙ (ap kept (sym q) ∙ e)) in

@@ -33,13 +33,17 @@ heightOf m (found p t ∷ us) = higher (m t) (heightOf m us)
 abbrev pub Right : Graph → Heights → Type 0
 Right g m = (d h : ℕ) → m d ≡ height h → heightOf m (g d) ≡ height h
 
--- a height that can be kept in a byte beside the mark of what is not finished
+-- the height that is kept of what is not finished
+abbrev pub unfinishedHeight : ℕ
+unfinishedHeight = 255
+
+-- a height that can be kept beside that one
 unfoldable pub low : Kept → Kept
 low unfinished = unfinished
-low (height h) = if ltb h 255 then height h else unfinished
+low (height h) = if ltb h unfinishedHeight then height h else unfinished
 
 abbrev pub Low : Heights → Type 0
-Low m = (d h : ℕ) → m d ≡ height h → h < 255
+Low m = (d h : ℕ) → m d ≡ height h → h < unfinishedHeight
 
 -- m with k kept for d
 unfoldable pub keep : Heights → ℕ → Kept → Heights

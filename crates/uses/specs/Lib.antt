@@ -1,4 +1,5 @@
 pub mod Walk
+pub mod Targets
 pub mod Plain
 pub mod Heights
 pub mod Once
