@@ -5,11 +5,12 @@ ghost use Prim.Native.Nat.{_+_, _<_, _^_};
 ghost use lib.ListN.{length};
 ghost use Rattle.base.specs.Overwrite.{putAt};
 ghost use Rattle.text.specs.Bytes.{between};
-ghost use Rattle.text.specs.Strings.{storedByte, readAt, readBytes, contentOf};
+ghost use Rattle.text.specs.Strings.{readAt, readBytes, contentOf};
 ghost use Rattle.contents.specs.Fits.{Fits};
 ghost use Rattle.contents.specs.Usual.{isEscape, isControlAt, isOctal, pairOf, octalValue, Tells};
 use escapes::is_control;
 use escapes::item_at;
+use escapes::stored_byte;
 use text::Content;
 use text::StringItem;
 use text_bytes::byte_at;
@@ -172,13 +173,6 @@ pub fn content_at(text: &[u8], at: usize) -> Content
         }
     }
     Content::Malformed
-}
-
-// A byte of a string as it is stored.
-fn stored_byte(b: u8) -> u8
-    ensures { λ r. ⌜ r ≡ storedByte b ⌝ }
-{
-    if b == 0 { 128 } else { b }
 }
 
 // The bytes that the string at from stands for, of which there are size, put into a buffer from at on.

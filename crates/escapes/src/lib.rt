@@ -1,9 +1,11 @@
-// What stands at a place of a string of source text: a byte, an escape, a line end that is removed, the comma
-// (document 01: Source text). Proved: `item_at` is itemAt of text/specs. Assumed: nothing.
+// What stands at a place of a string of source text: a byte, an escape, a line end that is removed, the comma; and a
+// byte of a string as it is stored (document 01: Source text). Proved: `item_at` is stringItemAt of text/specs, and
+// `stored_byte` is its storedByte. Assumed: nothing.
 ghost use mathlib.Core.Path.{_≡_};
 ghost use Prim.Native.Nat.{_+_, _≤_, _<_, _^_};
 ghost use lib.ListN.{length};
-ghost use Rattle.text.specs.Strings.{letterOf, isControl, octalOf, escapeAt, caretAt, lineEndAt, stringItemAt};
+ghost use Rattle.text.specs.Strings.{letterOf, isControl, octalOf, escapeAt, caretAt, lineEndAt, storedByte};
+ghost use Rattle.text.specs.Strings.{stringItemAt};
 use text::ByteClass;
 use text::StringItem;
 use text_bytes::byte_at;
@@ -102,6 +104,13 @@ fn line_end_at(text: &[u8], at: usize) -> StringItem
         return StringItem::Removed(run_end(text, ByteClass::Blank, at + 1));
     }
     StringItem::Malformed
+}
+
+// A byte of a string as it is stored.
+pub fn stored_byte(b: u8) -> u8
+    ensures { λ r. ⌜ r ≡ storedByte b ⌝ }
+{
+    if b == 0 { 128 } else { b }
 }
 
 // What stands at a place of a string.

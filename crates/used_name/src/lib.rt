@@ -1,12 +1,11 @@
 // The name in a use: the content of its string, as far as it can be an alias (document 02, 2026-02). Proved: `read`
 // reads what readAt of text/specs gives. Assumed: nothing.
-ghost use mathlib.Core.Path.{_≡_};
 ghost use Prim.Native.Nat.{_≤_};
 ghost use lib.ListN.{length};
 ghost use Rattle.text.specs.Heading.{aliasMost};
-ghost use Rattle.text.specs.Strings.{storedByte};
 ghost use Rattle.used_name.specs.Reads.{ReadsName};
 use escapes::item_at;
+use escapes::stored_byte;
 use text::ALIAS_MOST;
 use text::StringItem;
 
@@ -16,13 +15,6 @@ pub enum Used {
     Name(usize),
     // more than an alias may have
     Long,
-}
-
-// A byte of a string as it is stored.
-fn stored_byte(b: u8) -> u8
-    ensures { λ r. ⌜ r ≡ storedByte b ⌝ }
-{
-    if b == 0 { 128 } else { b }
 }
 
 // Reads the name whose string starts at a place into `name`. A malformed string may be read as the empty name.

@@ -1,7 +1,7 @@
 use borrow.Author.Tests.{eq-eqb, ne-eqb}
 use Rattle.text.specs.Strings.{storedByte}
-use Rattle.contents.proofs.stored_byte.Statement.{statement}
-use Rattle.contents.proofs.stored_byte.Tie as tie
+use Rattle.escapes.proofs.stored_byte.Statement.{statement}
+use Rattle.escapes.proofs.stored_byte.Tie as tie
 
 returns : tie.Need-returns
 unfolding storedByte
