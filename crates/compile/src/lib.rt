@@ -1,6 +1,6 @@
 // Compiles source text (document 01: Source text, order of text; document 02, 2026-02). Proved: `compile` and
-// `compile_first` answer every edition, text and wanted name as `compiling` of text/specs says, and a refusal leaves the
-// buffer as it was. Assumed: nothing.
+// `compile_first` answer every edition, text and wanted name as `compiling` of text/specs says, and a refusal leaves
+// the buffer as it was. Assumed: nothing.
 //
 // The text's first description, if it is the wanted one, is walked at once: it may be alone and have no uses. Any other
 // text is judged whole, and the fields of each description that the wanted one leads to are walked after that.

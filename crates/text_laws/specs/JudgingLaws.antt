@@ -131,7 +131,8 @@ module _ (t : List ℕ) (p : ℕ) where
   use-fits F.LargeNumber s w = refused-gives w
   use-fits (F.String i n) s w = by-test (leb n contentMost) w
     where
-      by-test : (b : Bool) → (if b then gives (uses (readBytes (readAt t i))) else refused 13 (p ∷ [])) ≡ gives s → Fits s
+      by-test : (b : Bool) → (if b then gives (uses (readBytes (readAt t i))) else refused 13 (p ∷ [])) ≡ gives s
+          → Fits s
       by-test true u = subst Fits (given-is u) tt
       by-test false u = refused-gives u
 
