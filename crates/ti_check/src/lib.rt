@@ -2,12 +2,12 @@
 // opens the file as `opening` of entry/specs says. Assumed: what libc and os say of C.
 use edition::Edition;
 use entry::Opened;
+use option_words::OwnOption;
 use ti_common::FILE_ROOM;
 use ti_common::Status;
 use ti_common::words::Task;
 use ti_common::words::Words;
 use ti_options::Outcome;
-use ti_options::OwnOption;
 
 fn describe(words: Words) -> Status {
     ti_common::words::describe(

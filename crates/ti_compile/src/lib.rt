@@ -11,6 +11,7 @@ ghost use Rattle.positions.specs.Taken.{textRoom};
 ghost use Rattle.ti_compile.specs.Asked.{asked};
 use edition::Edition;
 use entry::FILE_MOST;
+use option_words::OwnOption;
 use positions::Position;
 use text::Compiled;
 use text::TEXT_MOST;
@@ -21,7 +22,6 @@ use ti_common::words::Word;
 use ti_common::words::Words;
 use ti_options::Options;
 use ti_options::Outcome;
-use ti_options::OwnOption;
 use ti_options::Wanted;
 use ti_refusals::refuse;
 

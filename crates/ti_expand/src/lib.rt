@@ -13,6 +13,7 @@ use entry::Opened;
 use expansion::Expansion;
 use names::Found;
 use number_words::Parsed;
+use option_words::OwnOption;
 use shown::CONTENT_LEAST;
 use terminfo::ExpandedString;
 use ti_common::FILE_ROOM;
@@ -24,7 +25,6 @@ use ti_common::say_number;
 use ti_common::words::Task;
 use ti_common::words::Words;
 use ti_options::Outcome;
-use ti_options::OwnOption;
 
 mod opened;
 

@@ -3,12 +3,12 @@
 use edition::Edition;
 use entry::FILE_MOST;
 use entry::Merged;
+use option_words::OwnOption;
 use ti_common::FILE_ROOM;
 use ti_common::Status;
 use ti_common::words::Task;
 use ti_common::words::Words;
 use ti_options::Outcome;
-use ti_options::OwnOption;
 use ti_refusals::accept;
 
 fn describe(words: Words) -> Status {

@@ -1,25 +1,20 @@
 // The options of ti's commands: `-e EDITION` of every command, one of a command's own, and `--`, which ends them.
 // Proved: the edition given is none that is too large; the one before any -e is the second (`default_edition`); each
-// function is safe and ends. Not stated, and tested: which words stand there. Assumed: what libc and os say of C.
+// function is safe and ends. What a word is, `option_words` says. Not stated, and tested: which words stand there.
+// Assumed: what libc and os say of C.
 ghost use mathlib.Core.Path.{_≡_};
 ghost use mathlib.Core.Bool.{true};
-ghost use Prim.Native.Nat.{_<_};
+ghost use Prim.Native.Nat.{_+_, _<_};
 ghost use Rattle.edition.specs.Edition.{okEdition};
 ghost use Rattle.names.specs.Names.{secondEdition};
+ghost use Rattle.ti_options.specs.Steps.{wordsOf};
 use edition::Edition;
 use edition_words::EditionWord;
+use option_words::OwnOption;
+use option_words::WordKind;
 use ti_common::complain;
 use ti_common::output::complain_quoted;
 use ti_common::words::Words;
-
-// The option that a command has of its own.
-pub enum OwnOption {
-    Nothing,
-    // a letter behind `-`
-    Flag(u8),
-    // `-n NAME`
-    Name,
-}
 
 // How the options are.
 pub enum Outcome {
@@ -47,19 +42,6 @@ pub struct Options {
     pub words: Words,
 }
 
-// What a word is where options may stand.
-enum WordKind {
-    Operand,
-    // `--`, behind which no option stands
-    End,
-    Flag,
-    // `-e`, and the word behind it names the edition
-    Edition,
-    // `-n`, and the word behind it is the name
-    Name,
-    Unknown,
-}
-
 // What stands at a place.
 enum Step {
     Operand,
@@ -80,45 +62,6 @@ fn default_edition() -> Edition
     ensures { λ r. ⌜ r ≡ secondEdition ⌝ }
 {
     names::SECOND_EDITION
-}
-
-// What an option of one letter is that only some commands have.
-fn own_kind(letter: u8, own: OwnOption) -> WordKind {
-    match own {
-        OwnOption::Nothing => WordKind::Unknown,
-        OwnOption::Flag(flag) => {
-            if letter == flag {
-                return WordKind::Flag;
-            }
-            WordKind::Unknown
-        }
-        OwnOption::Name => {
-            if letter == b'n' {
-                return WordKind::Name;
-            }
-            WordKind::Unknown
-        }
-    }
-}
-
-// What a word is, by its bytes.
-fn kind_of(word: &[u8], own: OwnOption) -> WordKind {
-    if word.len() < 2 {
-        return WordKind::Operand;
-    }
-    if word[0] != b'-' {
-        return WordKind::Operand;
-    }
-    if word.len() != 2 {
-        return WordKind::Unknown;
-    }
-    if word[1] == b'-' {
-        return WordKind::End;
-    }
-    if word[1] == b'e' {
-        return WordKind::Edition;
-    }
-    own_kind(word[1], own)
 }
 
 // Says that an option is unknown.
@@ -169,7 +112,7 @@ fn name_at(place: usize) -> Step {
 fn step_at(place: u16, own: OwnOption) -> Step {
     let mut word = io::buffer();
     let n = os::arg(place as usize, &mut word);
-    match kind_of(&word[..n], own) {
+    match option_words::kind_of(&word[..n], own) {
         WordKind::Operand => Step::Operand,
         WordKind::End => Step::End,
         WordKind::Flag => Step::Flag,
@@ -182,7 +125,7 @@ fn step_at(place: u16, own: OwnOption) -> Step {
 // The place behind what stands at a place.
 fn behind(step: Step, place: u16) -> u16
     requires { ⌜ place < 1000 ⌝ }
-    ensures { λ r. ⌜ place < r ⌝ }
+    ensures { λ r. ⌜ (r ≡ place + wordsOf step) × (place < r) ⌝ }
 {
     match step {
         Step::Operand => place + 1,

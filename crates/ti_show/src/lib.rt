@@ -12,13 +12,13 @@ ghost use Rattle.show_lines.specs.Lines.{fileRoom};
 use edition::Edition;
 use entry::Opened;
 use names::Found;
+use option_words::OwnOption;
 use ti_common::FILE_ROOM;
 use ti_common::Status;
 use ti_common::say;
 use ti_common::words::Task;
 use ti_common::words::Words;
 use ti_options::Outcome;
-use ti_options::OwnOption;
 
 // Room for any line of a file.
 const LINE_ROOM: usize = 4 * FILE_ROOM + 128;
