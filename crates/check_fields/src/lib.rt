@@ -1,6 +1,5 @@
 // The fields of a description, judged one after the other without keeping their states; the places of its uses are kept
 // (document 02, 2026-02). Proved: `check` comes to what `sayingsFrom` of text/specs gives. Assumed: nothing.
-ghost use mathlib.Core.Path.{_≡_};
 ghost use Prim.Native.Nat.{_*_, _≤_};
 ghost use lib.ListN.{length};
 ghost use Rattle.text.specs.Bytes.{textMost};

@@ -4,7 +4,7 @@ use mathlib.Core.Path.{_≡_, refl, sym, ap, ap₂, _∙_, subst}
 use mathlib.Core.Bool.{Bool, true, false}
 use mathlib.Core.List.{List, [], _∷_}
 use Prim.Native.Nat.{ℕ, zero, suc, _<_, _≤_}
-use native.Mathlib.Nat.{not-suc-le-zero, le-of-suc-le-suc, le-trans}
+use native.Mathlib.Nat.{not-suc-le-zero, le-of-suc-le-suc}
 use native.Mathlib.Decide.{ℕ-discrete}
 use native.Mathlib.Omega.{arith}
 use lib.Dec.{eqb}
@@ -16,18 +16,16 @@ use Rattle.base.specs.Tabulate.{tabulate}
 use Rattle.base.proofs.TabulateLaws.{getD-tabulate, tabulate-ext}
 use Rattle.edition.specs.declared.Edition.{Edition}
 use Rattle.edition.specs.declared.Place.{Place}
-use Rattle.edition.specs.Edition.{place}
 use Rattle.entry.specs.State.{State, absent, cancelled, present}
-use Rattle.entry.specs.Writing.{Handed, stateOf}
+use Rattle.entry.specs.Writing.{stateOf}
 use Rattle.entry.specs.Merging.{over}
 use Rattle.text.specs.declared.Said.{Said}
 use Rattle.text.specs.declared.Said.the-variants as S
 use Rattle.text.specs.Strings.{readAt, readBytes}
 use Rattle.text.specs.Describing.{standing, with-saying}
-use Rattle.judge.specs.Judged.{sayingSaid, SaidIn}
 use Rattle.entry.specs.Handed.{handed}
 use Rattle.write_laws.specs.File.{Given}
-use Rattle.compile_laws.specs.Held.{textEntry, ShortAt, StringsStand, Holds, kept, Keeps}
+use Rattle.compile_laws.specs.Held.{ShortAt, Holds, kept, Keeps}
 
 -- ---- a place that is kept
 

@@ -2,25 +2,22 @@
 -- Assumes nothing.
 use mathlib.Core.Path.{_≡_, refl, sym, ap, _∙_, subst}
 use mathlib.Core.Bool.{true}
-use mathlib.Core.List.{List, [], _∷_, _++_}
-use Prim.Native.Nat.{ℕ, _+_, _*_, _≤_, _<_}
+use mathlib.Core.List.{List, [], _∷_}
+use Prim.Native.Nat.{ℕ, _+_, _≤_, _<_}
 use native.Mathlib.Decide.{ℕ-discrete}
 use native.Mathlib.Omega.{arith}
-use lib.Dec.{leb}
 use lib.ListN.{length, getD, set}
 use borrow.Author.Tests.{le-leb, lt-leb}
 use Rattle.base.specs.Overwrite.{putAt}
-use Rattle.base.proofs.OverwriteLaws.{put-nil, put-run, put-store}
-use Rattle.base.specs.Tabulate.{tabulate}
+use Rattle.base.proofs.OverwriteLaws.{put-store}
 use Rattle.edition.specs.declared.Edition.{Edition}
 use Rattle.edition.specs.Edition.{okEdition}
 use Rattle.entry.specs.declared.Sizes.{Sizes}
 use Rattle.entry.specs.Limits.{fileMost, givenNamesMost}
-use Rattle.entry.specs.State.{mapState}
 use Rattle.base.specs.Answer.{refused, gives, Leaves}
 use Rattle.entry.specs.Layout.{sizeOf}
 use Rattle.entry.specs.Writing.{Handed, stateOf, stringTable, encode}
-use Rattle.put.specs.Table.{total, HasLengths}
+use Rattle.put.specs.Table.{HasLengths}
 use Rattle.put.proofs.TableLaws.{map-stateOf, state-other, part-present}
 use Rattle.entry.specs.Handed.{frontHanded}
 use Rattle.write_laws.specs.File.{sizesHanded, FrontFits}
@@ -28,7 +25,6 @@ use Rattle.write_laws.proofs.FileLaws.{length-with}
 use Rattle.write_laws.proofs.AnswerLaws.{total-most}
 use Rattle.text.specs.Strings.{readAt, readBytes}
 use Rattle.text.specs.Compiling.{fittingNamed}
-use Rattle.judge.specs.Judged.{StandsAt}
 use Rattle.compile_laws.specs.Held.{textString, textEntry, StringsStand, Holds}
 use Rattle.entry_laws.specs.Merge.{edition-counts}
 

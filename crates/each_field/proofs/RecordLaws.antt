@@ -5,7 +5,7 @@ use mathlib.Core.List.{List, [], _∷_, _++_, map}
 use Prim.Native.Nat.{ℕ, _+_, _-_, _*_, _≤_, _<_}
 use native.Mathlib.Omega.{arith}
 use lib.ListN.{length, set, length-append}
-use Rattle.base.specs.Answer.{refused, gives}
+use Rattle.base.specs.Answer.{gives}
 use Rattle.base.specs.Overwrite.{putAt}
 use Rattle.base.proofs.OverwriteLaws.{put-nil, put-set, put-run, length-put}
 use Rattle.base.proofs.TabulateLaws.{map-append}
@@ -32,7 +32,7 @@ use Rattle.text_laws.specs.UseLaws.{use-field}
 use Rattle.judge.specs.Judged.{sayingSaid, saysJudged}
 use Rattle.compile_laws.specs.Listed.{usePlaces, usesRoom}
 use Rattle.each_field.specs.declared.Passed.the-variants as C
-use Rattle.each_field.specs.Each.{saidAt, usesSaid, KeepsUses, Passes, Recorded}
+use Rattle.each_field.specs.Each.{saidAt, usesSaid, KeepsUses, Recorded}
 
 -- ---- one field
 
@@ -221,14 +221,6 @@ module _ (e : Edition) (t : List ℕ) (at : ℕ) (before : List ℕ) (earlier i 
           let n = w .few in
           let l = check-length in
           (omega arith, omega arith)
-
-      pub check-forward : length t - next < length t - i
-      check-forward =
-          let f = field-read e t i p q j s next r u in
-          let f₁ = f .after in
-          let f₂ = f .forward in
-          let f₃ = f .within in
-          omega arith
 
       pub check-go : (after : List ℕ) (more : ℕ) → KeepsUses now count after more (saidAt t p s)
           → Checking e t at before earlier next after more

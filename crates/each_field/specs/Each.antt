@@ -17,8 +17,8 @@ use Rattle.text.specs.Bytes.{textMost}
 use Rattle.text.specs.Describing.{SayingAt, Fields, fieldsTo, sayingsFrom, described}
 use Rattle.text.specs.Building.{usesIn}
 use Rattle.text.specs.Compiling.{textNumber}
-use Rattle.judge.specs.Judged.{sayingSaid, SaidIn}
-use Rattle.compile_laws.specs.Held.{textEntry, Holds, Keeps}
+use Rattle.judge.specs.Judged.{sayingSaid}
+use Rattle.compile_laws.specs.Held.{textEntry, Holds}
 use Rattle.compile_laws.specs.Listed.{usePlaces, usesRoom}
 use Rattle.each_field.specs.declared.Passed.{Passed}
 use Rattle.each_field.specs.declared.Passed.the-variants as P

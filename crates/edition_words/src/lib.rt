@@ -1,7 +1,7 @@
 // Editions as words of a command line: `1`, `2`, or three counts as `21,8,138`. Proved: `parse` gives what
 // specs/Words.antt says of every word. Assumed: nothing.
 ghost use mathlib.Core.Path.{_≡_};
-ghost use mathlib.Core.List.{[], _∷_};
+ghost use mathlib.Core.List.{_∷_};
 ghost use Rattle.names.specs.Names.{parted};
 ghost use Rattle.edition_words.specs.Words.{editionOf, numbered, counted, countedBy, countIn, beforeComma};
 use edition::Edition;

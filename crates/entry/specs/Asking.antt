@@ -11,10 +11,10 @@ use Rattle.entry.specs.declared.Sizes.{Sizes}
 use Rattle.entry.specs.declared.Tables.{Tables}
 use Rattle.entry.specs.declared.Beyond.{Beyond}
 use Rattle.entry.specs.declared.Part.{Part}
-use Rattle.entry.specs.State.{State, mapState}
+use Rattle.entry.specs.State.{State}
 use Rattle.base.specs.Answer.{Answer, refused, gives, mapAnswer, isGiven}
 use Rattle.entry.specs.Layout.{sizesOf, tablesOf, beyondOf}
-use Rattle.entry.specs.Reading.{bytesOf, reading, namesPart, booleanIn, numberIn, partIn}
+use Rattle.entry.specs.Reading.{reading, namesPart, booleanIn, numberIn, partIn}
 
 -- what opening gives: the tables' places and, per list, how many slots lie beyond the edition
 pub record Opening : Type 0 where

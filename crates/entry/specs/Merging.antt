@@ -1,6 +1,6 @@
 -- Merging two compiled entries (document 01: Compiled entry; Numbers of refusal, order of merging).
 -- Assumes nothing.
-use mathlib.Core.Bool.{Bool, not}
+use mathlib.Core.Bool.{not}
 use mathlib.Core.List.{List, []}
 use Prim.Native.Nat.{ℕ}
 use Rattle.base.specs.If.{if_then_else_}
@@ -9,7 +9,7 @@ use Rattle.edition.specs.declared.Edition.{Edition}
 use Rattle.edition.specs.declared.Place.{Place}
 use Rattle.edition.specs.Edition.{okEdition, place}
 use Rattle.entry.specs.State.{State, absent, cancelled, present}
-use Rattle.base.specs.Answer.{Answer, refused, gives, andThen}
+use Rattle.base.specs.Answer.{Answer, refused, andThen}
 use Rattle.entry.specs.Layout.{sizesOf}
 use Rattle.entry.specs.Reading.{Entry, bytesOf, reading, namesPart, booleanIn, numberIn, stringIn}
 use Rattle.entry.specs.Writing.{encode, fitting}

@@ -1,7 +1,7 @@
 -- What each case of an answer says: document 01's number and values, or what is given. The contracts are stated
 -- through these, and no two answers of a call say the same, so that they determine the answer.
 -- Assumes nothing.
-use mathlib.Core.List.{List, [], _∷_}
+use mathlib.Core.List.{[], _∷_}
 use Prim.Native.Nat.{ℕ}
 use Rattle.entry.specs.declared.Sizes.{Sizes}
 use Rattle.entry.specs.declared.Part.{Part}

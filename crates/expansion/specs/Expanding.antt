@@ -1,7 +1,7 @@
 -- What expanding gives (document 01: Expansion; Numbers of refusal, order of expansion), and what the code's answer
 -- says.
 -- Assumes nothing.
-use mathlib.Core.Bool.{Bool, not}
+use mathlib.Core.Bool.{not}
 use mathlib.Core.List.{List, [], _∷_}
 use Prim.Native.Nat.{ℕ, _-_}
 use lib.Dec.{leb}

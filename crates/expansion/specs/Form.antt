@@ -1,7 +1,7 @@
 -- Which strings are well formed, and the place of the first wrong item (document 01: Expansion; Numbers of refusal,
 -- 14).
 -- Assumes nothing.
-use mathlib.Core.Bool.{Bool, true, false}
+use mathlib.Core.Bool.{true, false}
 use mathlib.Core.List.{List, [], _∷_}
 use Prim.Native.Nat.{ℕ, zero, suc}
 use lib.Dec.{ltb}

@@ -17,7 +17,6 @@ use Rattle.expansion.specs.declared.Item.the-variants.{Store, Load, Bina
 use Rattle.expansion.specs.declared.Item.the-variants.{If, Then, Else, End, Wrong}
 use Rattle.expansion.specs.declared.Operator.the-variants.{Add, Subtract, Multiply, Divide, Remainder, BitAnd}
 use Rattle.expansion.specs.declared.Operator.the-variants.{BitOr, BitXor, Equal, Greater, Less, And, Or}
-use Rattle.expansion.specs.declared.Base.{Base}
 use Rattle.expansion.specs.declared.Base.the-variants.{Decimal, Octal, SmallHex, CapitalHex}
 use Rattle.expansion.specs.declared.Lexed.{Lexed}
 

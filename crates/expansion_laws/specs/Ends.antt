@@ -8,10 +8,10 @@ use native.Mathlib.Omega.{arith}
 use lib.IntN.{ℤ}
 use lib.ListN.{length}
 use Rattle.base.proofs.IfLaws.{below-or}
-use Rattle.expansion.specs.Machine.{Machine, Outcome, finished, failed, run}
+use Rattle.expansion.specs.Machine.{Outcome, finished, failed, run}
 use Rattle.expansion_laws.specs.Steps.{Point, startOf, Step, leads, refuses, step}
 use Rattle.expansion_laws.specs.Steps.{Reaches, here, onward, EndsAt, Ends}
-use Rattle.expansion_laws.specs.Runs.{runOfRest, run-start, run-step, run-end, step-on, step-counts}
+use Rattle.expansion_laws.specs.Runs.{runOfRest, run-start, run-step, run-end, step-on}
 
 -- steps leave the outcome as it is
 reaches-run : {s : List ℕ} {p q : Point} → Reaches s p q → runOfRest s p ≡ runOfRest s q

@@ -1,6 +1,6 @@
 -- The cases of the reader's definitions, as its code meets them.
 -- Assumes nothing.
-use mathlib.Core.Path.{_≡_, refl, sym, ap, ap₂, _∙_}
+use mathlib.Core.Path.{_≡_, sym, ap, ap₂, _∙_}
 use mathlib.Core.Bool.{Bool, true, false, _&&_, not, and-false}
 use mathlib.Core.List.{List, []}
 use Prim.Native.Nat.{ℕ, _+_, _-_, _*_, _%_, _≤_, _<_}
@@ -11,7 +11,7 @@ use borrow.Author.Tests.{lt-leb, le-leb, eq-eqb, ne-eqb, lt-ltb, le-ltb, leb-tru
 use Rattle.base.specs.If.{if_then_else_}
 use Rattle.base.proofs.IfLaws.{below-or, true-false, and-left}
 use Rattle.base.specs.Scan.{scan}
-use Rattle.base.proofs.ScanLaws.{scan-all, scan-before, scan-le, scan-ext}
+use Rattle.base.proofs.ScanLaws.{scan-all, scan-before, scan-ext}
 use Rattle.word.specs.Word.{word}
 use Rattle.word.specs.Nul.{nulFrom, notNul}
 use Rattle.edition.specs.declared.Edition.{Edition}
@@ -23,7 +23,7 @@ use Rattle.entry.specs.State.{okBoolean, okSlot, half}
 use Rattle.base.specs.Answer.{Answer, refused, gives, mapAnswer}
 use Rattle.entry.specs.Layout.{sizesOf, sizeOf, tablesOf, booleansAt, numbersAt, stringsAt, tableAt}
 use Rattle.entry.specs.Reading.{okCounts, okNames, okBooleans, okPad, okNumbers, okStrings, okOffset, offset, reading}
-use Rattle.entry.specs.Asking.{Opening, openingOf, opening}
+use Rattle.entry.specs.Asking.{openingOf, opening}
 use Rattle.entry_laws.specs.Accepted.{accepted-facts, accepted-sizes}
 use Rattle.file_tables.specs.Framed.{Shorts, Framed, OffsetsEnd}
 

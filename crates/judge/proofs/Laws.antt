@@ -29,7 +29,7 @@ use Rattle.text.specs.declared.FieldJudged.the-variants as J
 use Rattle.text.specs.declared.TextRefusal.the-variants as R
 use Rattle.text.specs.declared.Field.the-variants as W
 use Rattle.text.specs.Fields.{fieldAt}
-use Rattle.text.specs.Describing.{sayingOf, useBy, namedSaying, judging}
+use Rattle.text.specs.Describing.{sayingOf, namedSaying, judging}
 use Rattle.text_laws.specs.FieldLaws.{field-after, field-string}
 use Rattle.judge.specs.Judged.{saysJudged, JudgedIn}
 use Rattle.judge.specs.Kinds.{FormIn, Judges, JudgesUse, JudgesNamed, JudgesUnknown}

@@ -14,9 +14,9 @@ use Rattle.base.specs.Tabulate.{tabulate}
 use Rattle.base.proofs.TabulateLaws.{length-tabulate, tabulate-more}
 use Rattle.base.specs.Overwrite.{putAt}
 use Rattle.base.proofs.OverwriteLaws.{put-nil, put-store}
-use Rattle.base.specs.Answer.{Answer, refused, gives, mapAnswer, andThen, isGiven}
+use Rattle.base.specs.Answer.{Answer, refused, gives, isGiven}
 use Rattle.edition.specs.declared.Edition.{Edition}
-use Rattle.edition.specs.Edition.{okEdition, booleansMost, numbersMost, stringsMost}
+use Rattle.edition.specs.Edition.{okEdition}
 use Rattle.entry.specs.declared.Tables.{Tables}
 use Rattle.entry.specs.Asking.{opening}
 use Rattle.entry_laws.specs.Accepted.{test-passed}

@@ -1,19 +1,18 @@
 -- What is written from the arrays that listing leaves.
 -- Assumes nothing.
 use mathlib.Core.Path.{_≡_, refl, sym, ap, ap₂, _∙_, subst}
-use mathlib.Core.Bool.{Bool, true, false, _&&_}
+use mathlib.Core.Bool.{Bool, true, false}
 use mathlib.Core.List.{List, [], _∷_, _++_}
-use Prim.Native.Nat.{ℕ, zero, suc, _+_, _≤_, _<_}
+use Prim.Native.Nat.{ℕ, zero, suc, _+_, _<_}
 use native.Mathlib.Nat.{not-suc-le-zero, le-of-suc-le-suc}
 use native.Mathlib.Omega.{arith}
 use lib.ListN.{length, getD, take, drop}
 use borrow.Author.Tests.{lt-ltb, ltb-true}
-use Rattle.base.specs.If.{if_then_else_}
 use Rattle.base.specs.Tabulate.{tabulate}
 use Rattle.base.proofs.TabulateLaws.{length-tabulate, getD-tabulate, tabulate-ext}
 use Rattle.base.specs.Overwrite.{putAt}
 use Rattle.base.proofs.OverwriteLaws.{put-front}
-use Rattle.base.specs.Answer.{Answer, refused, gives, mapAnswer, isGiven}
+use Rattle.base.specs.Answer.{Answer, gives, isGiven}
 use Rattle.edition.specs.declared.Edition.{Edition}
 use Rattle.edition.specs.declared.Place.{Place}
 use Rattle.edition.specs.Edition.{okEdition, place, knows}
@@ -22,9 +21,9 @@ use Rattle.entry.specs.State.{State, absent, cancelled, present, mapState}
 use Rattle.entry.specs.Layout.{sizesOf}
 use Rattle.entry.specs.Reading.{Entry, bytesOf, namesPart, booleanIn, numberIn, partIn, stringIn}
 use Rattle.entry.specs.Reading.{heldBoolean, heldNumber, heldString}
-use Rattle.entry.specs.Asking.{opening, asking, askingNames, askingBoolean, askingNumber, askingString, partGiven}
+use Rattle.entry.specs.Asking.{opening, asking, partGiven}
 use Rattle.entry.specs.Writing.{stateOf, entryOf, writing}
-use Rattle.entry_laws.specs.Asked.{asking-gives, map-asking, asking-same}
+use Rattle.entry_laws.specs.Asked.{asking-gives, map-asking}
 use Rattle.entry_laws.specs.Sound.{WrittenIn}
 use Rattle.entry_laws.specs.Demands.{written-holds, ReadsAsWritten, reads-as-written}
 use Rattle.opened_file.proofs.Laws.{asking-unknown}

@@ -1,7 +1,6 @@
 // Merges compiled entries (document 01: Compiled entry, order of merging). Proved: `merge` answers every edition and
 // every two slices of bytes as `merging` of entry/specs says, and a refusal leaves the buffer as it was. Assumed:
 // nothing.
-ghost use mathlib.Core.Path.{_≡_};
 ghost use mathlib.Core.List.{_++_};
 ghost use lib.ListN.{length};
 ghost use Rattle.base.specs.Answer.{Leaves};

@@ -114,16 +114,6 @@ number-says N.Cancelled x q = cc
 number-says (N.Present n) x q = cc
 number-says N.Refused x q = cc
 
-abbrev partOf : HandedString → Part
-partOf s = record { start = s .start; length = s .length }
-
-pub string-says : (s : StringState) (x : State Part) → saysString s ≡ gives x → stateOf (handedString s .kind) (partOf (handedString s)) ≡ x
-unfolding stateOf
-string-says S.Absent x q = cc
-string-says S.Cancelled x q = cc
-string-says (S.Present p) x q = cc
-string-says S.Refused x q = cc
-
 -- ---- a string in the two files
 
 -- a present part lies in the file

@@ -10,7 +10,6 @@ use lib.Dec.{eqb}
 use lib.ListN.{length, getD}
 use borrow.Author.Tests.{eqb-true, eq-eqb, ne-eqb}
 use Rattle.base.proofs.IfLaws.{true-false, and-left, and-right, below-or}
-use Rattle.base.specs.Scan.{scan}
 use Rattle.base.proofs.ScanLaws.{scan-all, scan-before, scan-fails}
 use Rattle.word.specs.Word.{word}
 use Rattle.names.specs.Names.{ascii, parted, named, booleanNames, numberNames, stringNames, allNames, allNamed}

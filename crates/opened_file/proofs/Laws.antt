@@ -24,7 +24,7 @@ use Rattle.entry.specs.Limits.{headerSize, namesLeast, numberWidth, offsetWidth
 use Rattle.entry.specs.State.{State, absent, cancelled, present, mapState, absentMark, cancelledMark, slotOf, booleanOf}
 use Rattle.base.specs.Answer.{Answer, refused, gives, mapAnswer, isGiven}
 use Rattle.entry.specs.Layout.{sizesOf, stringsAt, tableAt, sizeOf, tablesOf}
-use Rattle.entry.specs.Reading.{bytesOf, offset, okOffset, reading, namesPart, booleanIn, slotIn, numberIn, offsetIn, contentAt, partIn}
+use Rattle.entry.specs.Reading.{offset, okOffset, reading, namesPart, booleanIn, slotIn, numberIn, offsetIn, contentAt, partIn}
 use Rattle.entry.specs.Asking.{Opening, openingOf, opening, asking, askingNames, askingBoolean, askingNumber, askingString}
 use Rattle.entry_laws.specs.Slots.{Passes, slot-in}
 use Rattle.entry_laws.specs.Accepted.{Accepted, test-passed, accepted-facts, reading-accepted, counts-names-least, offset-fits}

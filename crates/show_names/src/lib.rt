@@ -1,7 +1,6 @@
 // Puts what lines are made of: texts, decimal numbers, and capabilities by their names or, where the list has no name
 // at the place, by kind and place. Proved: each function puts what its contract says, by specs/Naming.antt. Assumed:
 // nothing.
-ghost use mathlib.Core.Path.{_≡_};
 ghost use mathlib.Core.List.{_++_};
 ghost use Prim.Native.Nat.{_+_, _≤_};
 ghost use lib.ListN.{length};

@@ -11,7 +11,7 @@ use lib.Signed.{mag, ltZ, quotZ, remZ, mag-rem}
 use lib.Dec.{T, ltb, eqb, lit<}
 use borrow.Author.Tests.{ltb-true, ltb-false, lt-ltb, le-ltb, ne-eqb}
 use mir.Syntax.{w32, w64}
-use mir.Val.{SFits, toZ, ofZ, bits, hbits}
+use mir.Val.{SFits, toZ, ofZ, hbits}
 use mir.Facts.{toZ-ofZ, sfits-widen, fits-ofZ, toZ-neg, toZ-pos}
 use Rattle.signed.specs.Signed.{low32, wrap, subtract, divide, remainder, isZero}
 

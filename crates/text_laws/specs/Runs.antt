@@ -1,13 +1,12 @@
 -- Runs of bytes of a class.
 -- Assumes nothing.
-use mathlib.Core.Path.{_≡_, refl, sym, ap, _∙_, subst}
+use mathlib.Core.Path.{_≡_, sym, ap, _∙_}
 use mathlib.Core.Bool.{Bool, true, false, not, Bool·not-not}
-use mathlib.Core.List.{List, [], _∷_}
-use Prim.Native.Nat.{ℕ, zero, suc, _+_, _-_, _≤_, _<_}
+use mathlib.Core.List.{List}
+use Prim.Native.Nat.{ℕ, _+_, _-_, _≤_, _<_}
 use native.Mathlib.Omega.{arith}
 use lib.ListN.{length, getD, List·getD-eq-default}
 use Rattle.base.proofs.IfLaws.{true-false, below-or}
-use Rattle.base.specs.Scan.{scan}
 use Rattle.base.proofs.ScanLaws.{scan-step, scan-hit, scan-end, scan-ge, scan-le, scan-before, scan-fails}
 use Rattle.text.specs.declared.ByteClass.{ByteClass}
 use Rattle.text.specs.Bytes.{isIn, runEnd}

@@ -8,7 +8,6 @@ use lib.ListN.{length, take}
 use lib.Seq.{length-take-le}
 use Rattle.base.specs.Overwrite.{putAt}
 use Rattle.base.proofs.OverwriteLaws.{length-put}
-use Rattle.text.specs.declared.Content.{Content}
 use Rattle.text.specs.declared.Content.the-variants as W
 use Rattle.text.specs.Strings.{Read, whole, malformed, readAt, readBytes, contentOf}
 use Rattle.contents.specs.Fits.{Fits}

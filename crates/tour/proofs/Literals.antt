@@ -5,7 +5,7 @@ use mathlib.Core.List.{List, [], _∷_}
 use lib.Dec.{lit<}
 use lib.IntN.{ℤ, pos}
 use mir.Syntax.{w32, w64}
-use mir.Val.{Val, vint}
+use mir.Val.{vint}
 use denote.Laws.{Is}
 use denote.Array.{Array, array-vals}
 use denote.Builtin.{i32}

@@ -3,11 +3,10 @@
 use mathlib.Core.Path.{_≡_, subst}
 use mathlib.Core.List.{List, []}
 use Prim.Native.Nat.{ℕ}
-use Rattle.base.specs.Answer.{Answer}
 use Rattle.edition.specs.declared.Edition.{Edition}
 use Rattle.entry.specs.Writing.{Handed}
 use Rattle.text.specs.declared.TextRefusal.{TextRefusal}
-use Rattle.text.specs.Describing.{Fields, sayingsFrom}
+use Rattle.text.specs.Describing.{sayingsFrom}
 use Rattle.each_field.specs.declared.Passed.{Passed}
 use Rattle.each_field.specs.declared.Passed.the-variants as P
 use Rattle.each_field.specs.Each.{FieldsKept, Kept}

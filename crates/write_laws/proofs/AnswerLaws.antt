@@ -10,13 +10,12 @@ use native.Mathlib.Omega.{arith}
 use lib.Dec.{eqb, leb}
 use lib.ListN.{length, getD, take, drop, length-drop}
 use lib.Seq.{length-take-le}
-use borrow.Author.Tests.{leb-true, le-leb, lt-leb}
-use Rattle.base.proofs.IfLaws.{and-left, and-right}
+use borrow.Author.Tests.{le-leb, lt-leb}
+use Rattle.base.proofs.IfLaws.{and-right}
 use Rattle.base.specs.Scan.{every}
 use Rattle.base.proofs.ScanLaws.{every-at}
 use Rattle.base.specs.Overwrite.{putAt}
 use Rattle.edition.specs.declared.Edition.{Edition}
-use Rattle.edition.specs.Edition.{booleansMost, numbersMost, stringsMost, okEdition}
 use Rattle.entry.specs.declared.Sizes.{Sizes}
 use Rattle.entry.specs.Limits.{fileMost, shortMost, contentMost}
 use Rattle.entry.specs.Layout.{sizeOf}

@@ -1,7 +1,6 @@
 -- `each_field::count_use` meets its contract: each arm is a case of what a field says.
 -- Assumes nothing.
-use mathlib.Core.Path.{_≡_, refl, sym, ap, _∙_}
-use Prim.Native.Nat.{ℕ}
+use mathlib.Core.Path.{sym, ap, _∙_}
 use native.Mathlib.Omega.{arith}
 use Rattle.base.proofs.IfLaws.{true-false}
 use Rattle.each_field.specs.Each.{usesSaid}

@@ -1,8 +1,4 @@
 -- `entry_numbers::numbers_of` meets its contract: by what opening answered.
-use mathlib.Core.Path.{sym, ap, _∙_}
-use Rattle.edition.specs.declared.Edition.{Edition}
-use Rattle.entry.specs.Says.{saysOpened}
-use Rattle.entry_numbers.specs.Entries.{numbersOf}
 use borrow.Author.Needs.{needs}
 use Rattle.entry_numbers.proofs.numbers_of.Statement.{statement}
 use Rattle.entry_numbers.proofs.numbers_of.Tie as tie

@@ -1,7 +1,5 @@
 -- `file_tables::names_ok` meets its contract: the tables' places are the layout's.
-use mathlib.Core.Path.{_≡_, refl, sym, ap, _∙_}
 use native.Mathlib.Omega.{arith}
-use Rattle.entry.specs.declared.Tables.{Tables}
 use Rattle.entry.specs.Reading.{okNames}
 use Rattle.file_tables.proofs.Laws.{at-booleans}
 use Rattle.file_tables.proofs.names_ok.Statement.{statement}

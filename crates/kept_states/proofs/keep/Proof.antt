@@ -1,12 +1,10 @@
 -- `kept_states::keep` meets its contract: one law for each kind of capability.
 -- Assumes nothing.
-use mathlib.Core.Path.{sym, subst}
+use mathlib.Core.Path.{subst}
 use native.Mathlib.Omega.{arith}
 use denote.Ref.{now}
 use borrow.Author.Needs.{needs}
 use Rattle.judge.specs.Judged.{SaidIn}
-use Rattle.text.specs.declared.Said.{Said}
-use Rattle.compile_laws.specs.Held.{Keeps}
 use Rattle.compile_laws.proofs.KeepLaws.{keeps-nothing, keeps-use, keeps-boolean, keeps-number, keeps-string}
 use Rattle.kept_states.proofs.keep.Statement.{statement}
 use Rattle.kept_states.proofs.keep.Tie as tie

@@ -1,11 +1,9 @@
 -- `lookup::find_all` meets its contract: the place of the name's number in the table tells its list and its place there.
 use denote.Ref.{now}
-use mathlib.Core.Path.{_≡_, ap, _∙_}
-use Prim.Native.Nat.{_≤_}
+use mathlib.Core.Path.{ap, _∙_}
 use native.Mathlib.Omega.{arith}
 use borrow.Author.Needs.{needs}
 use Rattle.names.specs.declared.Found.the-variants as F
-use Rattle.names.specs.Lookup.{lookingUp}
 use Rattle.names.specs.Searching.{searching}
 use Rattle.names.proofs.LookupLaws.{Bytes, TablePlace, found-boolean, found-number, found-string, found-none}
 use Rattle.lookup.proofs.find_all.Statement.{statement}

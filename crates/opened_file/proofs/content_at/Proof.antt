@@ -2,7 +2,6 @@
 use denote.Ref.{now}
 use lib.ListN.{length}
 use native.Mathlib.Omega.{arith}
-use borrow.Author.Needs.{needs}
 use Prim.Native.Nat.{_+_, _-_}
 use Rattle.base.proofs.ScanLaws.{scan-ge}
 use Rattle.word.specs.Nul.{notNul}

@@ -1,5 +1,5 @@
 -- `opened_file::offset_at` meets its contract: what the slot says, as an offset.
-use mathlib.Core.Path.{sym, ap, _∙_, subst}
+use mathlib.Core.Path.{sym, ap, _∙_}
 use native.Mathlib.Omega.{arith}
 use borrow.Author.Needs.{needs}
 use Rattle.file_tables.proofs.Laws.{at-strings, in-strings}

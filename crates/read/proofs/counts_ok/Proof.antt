@@ -1,7 +1,4 @@
 -- `read::counts_ok` meets its contract: each test decides one conjunct of `okCounts`.
-use mathlib.Core.Bool.{and-false}
-use borrow.Author.Tests.{le-leb, lt-leb}
-use Rattle.entry.specs.Reading.{okCounts}
 use Rattle.file_tables.proofs.Laws.{counts-least, counts-names, counts-booleans, counts-numbers, counts-strings, counts-table}
 use Rattle.read.proofs.counts_ok.Statement.{statement}
 use Rattle.read.proofs.counts_ok.Tie as tie

@@ -1,16 +1,15 @@
 -- `text_file::write` meets its contract: each return is the answer of `fittingNamed` in its order.
 -- Assumes nothing.
-use mathlib.Core.Path.{_≡_, refl, sym, ap, _∙_}
+use mathlib.Core.Path.{_≡_, ap, _∙_}
 use native.Mathlib.Omega.{arith}
 use denote.Ref.{now}
-use lib.ListN.{length}
 use borrow.Author.Needs.{needs}
 use Rattle.entry.specs.Layout.{sizeOf, tableAt}
 use Rattle.entry.specs.Handed.{handed}
 use Rattle.write_laws.specs.File.{sizesHanded, head, slots}
 use Rattle.write_laws.proofs.FileLaws.{file-put}
 use Rattle.compile_laws.specs.Held.{textString}
-use Rattle.compile_laws.proofs.WriteLaws.{text-described, length-text, size-small, front-fits, refuse-total, refuse-size, refuse-room, give-file}
+use Rattle.compile_laws.proofs.WriteLaws.{text-described, size-small, front-fits, refuse-total, refuse-size, refuse-room, give-file}
 use Rattle.text_file.proofs.write.Statement.{statement}
 use Rattle.text_file.proofs.write.Tie as tie
 

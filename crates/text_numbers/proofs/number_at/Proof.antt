@@ -1,6 +1,4 @@
-use mathlib.Core.Path.{_∙_}
 use borrow.Author.Needs.{needs}
-use denote.Ref.{now}
 use Rattle.text_numbers.specs.Bases.{number-digits}
 use Rattle.text_numbers.proofs.number_at.Statement.{statement}
 use Rattle.text_numbers.proofs.number_at.Tie as tie

@@ -1,9 +1,8 @@
 -- `walk_fields::walk` meets its contract: what passing over the fields answers, with their states kept.
 -- Assumes nothing.
-use mathlib.Core.Path.{refl, sym}
+use mathlib.Core.Path.{refl}
 use native.Mathlib.Omega.{arith}
 use borrow.Author.Needs.{needs}
-use borrow.Author.Tests.{eqb-true}
 use Rattle.base.proofs.IfLaws.{true-false}
 use Rattle.walk_fields.proofs.WalkLaws.{walked-alone, walked-used, walked-header, walked-refused}
 use Rattle.walk_fields.proofs.walk.Statement.{statement}

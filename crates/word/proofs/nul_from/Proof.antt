@@ -1,13 +1,12 @@
 -- `word::nul_from` meets its contract. The invariant: the first NUL from a on is the first from i on, so that i is below
 -- the length.
 use denote.Ref.{now}
-use Prim.Native.Nat.{ℕ, _-_, _≤_, _<_}
+use Prim.Native.Nat.{ℕ, _-_, _<_}
 use mathlib.Core.Path.{_≡_, refl, sym, _∙_}
 use mathlib.Core.List.{List}
 use native.Mathlib.Omega.{arith}
 use lib.ListN.{length}
 use borrow.Author.Tests.{ne-eqb, eq-eqb}
-use borrow.Author.Needs.{needs}
 use Rattle.base.proofs.ScanLaws.{scan-ge, scan-step, scan-hit}
 use Rattle.word.specs.Nul.{nulFrom, notNul}
 use Rattle.word.proofs.nul_from.Statement.{statement}

@@ -1,5 +1,4 @@
 use Rattle.word.specs.Word.{bytes}
-use Rattle.base.specs.Overwrite.{putAt}
 use Rattle.base.proofs.OverwriteLaws.{put-store, put-set}
 use lib.ListN.{length-set}
 use denote.Ref.{now}

@@ -1,8 +1,7 @@
 -- `ti_files::input::read_all` meets its contract. The loop's invariant: what is read fits the slice, whose length stays.
 -- Assumes nothing.
-use mathlib.Core.Path.{_≡_, refl}
+use mathlib.Core.Path.{_≡_}
 use Prim.Native.Nat.{_-_, _≤_}
-use native.Mathlib.Omega.{arith}
 use lib.ListN.{length}
 use borrow.Author.Needs.{needs}
 use Rattle.ti_files.proofs.input.read_all.Statement.{statement}
