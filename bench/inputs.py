@@ -189,6 +189,7 @@ def main(folder):
     put_strings(folder, "texts", texts)
     of_xterm = dict(strings(file))
     put_strings(folder, "cup", [of_xterm[model.STRINGS.index("cup")]])
+    put_strings(folder, "characters", [b"\x14%p1%c%p2%c"])
     put_strings(folder, "sgr", [of_xterm[model.STRINGS.index("sgr")]])
     put_strings(folder, "setaf", [SETAF])
     put_strings(folder, "decimal", [b"%p1%d"])

@@ -383,7 +383,7 @@ uint64_t terminfo_capability(uint8_t kind, size_t place);
  *     %d %o %x %X               pops a value and prints it, octal and hex mod 2^32, with a width of
  *                               1 to 99, and a 0 before the width to fill with zeros, which stand
  *                               after the sign: %3d, %02x;
- *     %c                        pops a value and prints it mod 256 as one byte;
+ *     %c                        pops a value and prints it mod 256 as one byte, 0 as 128;
  *     %'b' %{digits}            pushes a byte other than NUL, or a number of at most 2,147,483,647;
  *     %Pa %ga, %PA %gA          pops into a variable, pushes a variable;
  *     %+ %- %* %/ %m            pop two values and push the result in 32 bits, the value popped
@@ -397,10 +397,12 @@ uint64_t terminfo_capability(uint8_t kind, size_t place);
  *                               most 16 stand within each other.
  *
  * Success gives the steps, which are the items taken, times 2^24 plus the output's length
- * (terminfo_steps, terminfo_length). Refusals, the first that applies: 17 (at is above
- * buffer_length), 1 (above 1,000 bytes), 14 (gives the place of the first wrong item, or the
- * string's length for an open conditional), 15 and 16 (give the place of the item at which the
- * expansion stops), 8 (gives the output's length: terminfo_value).
+ * (terminfo_steps, terminfo_length). The output holds no NUL, whatever the string, the arguments and
+ * the variables (the theorem expanding-no-nul of output_laws).
+ *
+ * Refusals, the first that applies: 17 (at is above buffer_length), 1 (above 1,000 bytes), 14 (gives
+ * the place of the first wrong item, or the string's length for an open conditional), 15 and 16 (give
+ * the place of the item at which the expansion stops), 8 (gives the output's length: terminfo_value).
  *
  * Uses at most 1,168 bytes of stack. */
 uint64_t terminfo_expand(const uint8_t *string, size_t string_length, const int32_t arguments[9],

@@ -178,7 +178,7 @@ class Machine:
         self.output += printed(self.pop(), conversion, int(item["width"] or 0), item["zero"])
 
     def character(self, _):
-        self.output.append(self.pop() % 256)
+        self.output.append(self.pop() % 256 or 128)  # 128: document 02, 2026-04
 
     def byte(self, item):
         self.push(item["byte"][0])

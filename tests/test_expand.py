@@ -1,4 +1,4 @@
-"""Holds expansion by the library to the vectors, document 01's examples, the model and ncurses.
+"""Holds expansion by the library to the vectors, the documents' examples, the model and ncurses.
 
 The strings that go to library and model are all short ones of some kinds, and generated ones, the
 same in every run. Fails at the first difference, and if a refusal, or a case that NEEDED names,
@@ -85,6 +85,8 @@ def check(string, arguments, lasting, room, at):
     if found != expected:
         print("the library gives", found, "\nthe model gives", expected, "\nfor", given)
         sys.exit(f"expansion of {string} differs")
+    if found[1] is not None and 0 in found[1]:
+        sys.exit(f"expansion of {string} with {arguments} and {lasting} holds a NUL")
     count(found[0], string, room, at)
     return found
 
@@ -136,8 +138,8 @@ def run_vectors():
 SGR = (b"\33[0%?%p1%p6%|%t;1%;%?%p2%t;4%;%?%p4%t;5%;"
        b"%?%p1%p3%|%t;7%;%?%p7%t;8%;m%?%p9%t\16%e\17%;")
 CHOICE = b"%?%p1%tA%e%p2%tB%eC%;"
-# String, first arguments (the others are 0), and what document 01 says: output or refusal, and
-# steps (None where it says nothing).
+# String, first arguments (the others are 0), and what the documents say: output or refusal, and
+# steps (None where they say nothing).
 EXAMPLES = [
     (b"\33=%p1%' '%+%c%p2%' '%+%c", [3, 12], bytes([27, 61, 35, 44]), 10),
     (b"\33&a%p2%02dc%p1%02dY", [3, 12], b"\33&a12c03Y", None),
@@ -153,6 +155,8 @@ EXAMPLES = [
     (21 * b"%p1", [], pack(16, 60), None),
     (SGR, 9 * [1], b"\33[0;1;4;5;7;8m\16", None),
     (SGR, [], b"\33[0m\17", None),
+    (b"\24%p1%c%p2%c", [0, 70], b"\24\200F", 5),  # document 02, 2026-04, and the next
+    (b"%p1%c%p2%c%{512}%c", [256, -256], b"\200\200\200", None),
 ]
 
 
@@ -460,6 +464,8 @@ def check_generated():
 
 # ncurses
 
+TPARM = ctypes.CDLL("libtinfo.so.6").tparm
+TPARM.restype = POINTER
 TERMINALS = ["xterm", "vt100", "linux", "screen", "vt52", "xterm-256color"]
 COLORS = [[color] for color in (0, 1, 7, 8, 9, 15, 16, 100, 255)]
 USES = {
@@ -503,6 +509,26 @@ def run_ncurses():
     return sum(total.values())
 
 
+def both(string, *arguments):
+    """What the library gives, and as many bytes of what tparm gives, those past a NUL included."""
+    nine = [*arguments, *(9 - len(arguments)) * [0]]
+    _, output, _ = check(string, nine, 26 * [0], 512, 0)
+    return output, ctypes.string_at(TPARM(string, *map(ctypes.c_long, nine)), len(output))
+
+
+def check_characters():
+    """`%c` by tparm: 0 gives 128 there too, other multiples of 256 give a NUL."""
+    values = sorted({*range(-1024, 1025), *EDGES})
+    for value in values:
+        if value % 256:
+            expected = 2 * (b"%c." % (value % 256),)
+        else:
+            expected = b"\x80.", b"\0." if value else b"\x80."
+        same(both(b"%p1%c.", value), expected, f"%c of {value}")
+    same(both(b"\24%p1%c%p2%c", 0, 70), 2 * (b"\24\x80F",), "cup of act4 at row 0")
+    return len(values)
+
+
 def report():
     """How often success and each refusal came; exits if one never came."""
     print(f"{sum(tally.values())} inputs; " + ", ".join(
@@ -519,6 +545,7 @@ def report():
 if __name__ == "__main__":
     vectors, examples, sent = run_vectors(), run_examples(), run_ncurses()
     print(f"{vectors} vectors, {examples} examples and {sent} strings that tput sends, as stated")
+    print(f"%c of {check_characters()} values as by tparm, but 128 for a multiple of 256 other than 0")
     for part in (check_formats, check_operators, check_two_bytes, check_variables,
                  check_conditionals, check_generated):
         part()

@@ -140,6 +140,10 @@ static void expanding(void) {
     answer = expand("%p3%PB%gB%03d", lasting, buffer, 0);
     assert(terminfo_steps(answer) == 4 && terminfo_length(answer) == 3);
     assert(!memcmp(buffer, "-05[1;1H........", sizeof buffer) && lasting[1] == -5);
+    answer = expand("%p1%c%p3%c%{256}%c%'A'%c", lasting, buffer, 8);
+    assert(terminfo_steps(answer) == 8 && terminfo_length(answer) == 4);
+    assert(!memcmp(buffer, "-05[1;1H\200\373\200A....", sizeof buffer));
+    memset(buffer + 8, '.', 4);
 
     answer = expand("a%p1%PB%+", lasting, buffer, 0);
     assert(terminfo_refusal(answer) == 15 && terminfo_value(answer) == 7);

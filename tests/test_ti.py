@@ -660,6 +660,8 @@ def check_expansions():
     same(raw("expand", "act", "cup", "5", "70"), (0, b"\x14\x05F", ""), "cup of act4")
     same(raw("expand", "-v", "-", "cup", "5", "70", given=act4.dumped()),
          (0, b"\\024\\005F\n5 steps\n", ""), "cup of act4")
+    same(raw("expand", "act", "cup", "0", "70"), (0, b"\x14\x80F", ""), "cup of act4 at row 0")
+    same(raw("expand", "act", "cup"), (0, b"\x14\x80\x80", ""), "cup of act4 at row 0, column 0")
     examples = [(b"\x1b=%p1%' '%+%c%p2%' '%+%c", (3, 12)), (b"%p1%p2%-%d", (7, 5)),
                 (b"%p1%03d", (-5,)), (b"%?%p2%|%t;4%;", ()), (b"\x1b[%i%p1%d;%p2%dH", (0, 0)),
                 (21 * b"%p1", ()), (20 * b"%p1", ()), (b"%", ()), (1000 * b"x", ()),
@@ -690,7 +692,7 @@ def check_expansions():
     missing = {0, 14, 15, 16} - set(numbers)
     if missing:
         sys.exit(f"expand: never seen: {missing}")
-    return 2 * len(examples) + 23 + 2 * STRINGS
+    return 2 * len(examples) + 25 + 2 * STRINGS
 
 
 def check_bad_files():

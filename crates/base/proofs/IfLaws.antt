@@ -59,6 +59,12 @@ pub if-false : {A : Type 0} (t : Bool) (x y : A) → t ≡ false → y ≡ (if t
 if-false true x y h = true-false h
 if-false false x y h = refl
 
+-- a choice has a property that both its values have
+pub if-both : {A : Type 0} (P : A → Type 0) (b : Bool) {x y : A} → (b ≡ true → P x) → (b ≡ false → P y)
+    → P (if b then x else y)
+if-both P true hx hy = hx refl
+if-both P false hx hy = hy refl
+
 -- a number is itself
 pub eqb-refl : (k : ℕ) → eqb k k ≡ true
 eqb-refl k = eq-eqb k k refl

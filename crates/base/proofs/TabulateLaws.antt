@@ -1,11 +1,11 @@
--- Laws of lists by their places.
+-- Laws of lists by their places, and of a property of every element.
 -- Assumes nothing.
 use mathlib.Core.Path.{_≡_, refl, sym, ap, ap₂, subst}
 use mathlib.Core.List.{List, [], _∷_, _++_, map}
 use Prim.Native.Nat.{ℕ, zero, suc, _+_, _<_, suc-le-suc}
 use native.Mathlib.Nat.{not-suc-le-zero, le-of-suc-le-suc, zero-lt-suc}
 use native.Mathlib.Omega.{arith}
-use lib.ListN.{length, getD}
+use lib.ListN.{length, getD, replicate}
 use Rattle.base.specs.Tabulate.{tabulate, Each}
 
 pub length-tabulate {ℓ} : {A : Type ℓ} (g : ℕ → A) (n : ℕ) → length (tabulate g n) ≡ n
@@ -53,3 +53,11 @@ each-of P (x ∷ xs) d h = (h 0 (zero-lt-suc (length xs)), each-of P xs d (λ i 
 pub each-tabulate {ℓ} : {A : Type ℓ} (P : A → Type 0) (g : ℕ → A) (n : ℕ) (d : A) → ((i : ℕ) → i < n → P (g i)) → Each P (tabulate g n)
 each-tabulate P g n d h =
     each-of P (tabulate g n) d (λ i l. let m : i < n = rw (length-tabulate g n) at l in subst P (sym (getD-tabulate g n i d m)) (h i m))
+
+pub each-append : {A : Type 0} (P : A → Type 0) (xs ys : List A) → Each P xs → Each P ys → Each P (xs ++ ys)
+each-append P [] ys h w = w
+each-append P (x ∷ xs) ys h w = (h .0, each-append P xs ys (h .1) w)
+
+pub each-replicate : {A : Type 0} (P : A → Type 0) (n : ℕ) (v : A) → P v → Each P (replicate n v)
+each-replicate P zero v w = tt
+each-replicate P (suc n) v w = (w, each-replicate P n v w)

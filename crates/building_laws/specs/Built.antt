@@ -13,12 +13,13 @@ use Rattle.base.specs.If.{if_then_else_}
 use Rattle.base.specs.Tabulate.{tabulate, Each}
 use Rattle.base.proofs.TabulateLaws.{each-at, each-tabulate}
 use Rattle.base.specs.Answer.{Answer, refused, gives, mapAnswer, andThen}
+use Rattle.word.specs.Nul.{NoNul}
 use Rattle.edition.specs.declared.Edition.{Edition}
 use Rattle.entry.specs.Limits.{givenNamesMost}
 use Rattle.entry.specs.State.{State, absent}
 use Rattle.entry.specs.Reading.{Entry}
 use Rattle.entry.specs.Merging.{over}
-use Rattle.entry_laws.specs.Sound.{NoNul, NumberFits, ContentFree}
+use Rattle.entry_laws.specs.Sound.{NumberFits, ContentFree}
 use Rattle.entry_laws.specs.Merge.{over-has}
 use Rattle.uses.specs.Walk.{Use, Graph, usesMost, bind, withUses, brought, built}
 use Rattle.uses.specs.Related.{built-keeps}
@@ -63,15 +64,6 @@ text-built e t w x h = by-text (describing e t) refl h
         → TextBuilt e t w x
     by-text (refused n v) q u = refused-gives u
     by-text (gives ds) q u = by-totals ds q (totals ds) refl u
-
--- the parts make it up
-pub built-text : (e : Edition) (t : List ℕ) (w : Wanted) (ds : List Description) (d : ℕ) → describing e t ≡ gives ds
-    → totals ds ≡ gives tt → wantedIn ds w ≡ gives d → buildingText e t w ≡ outcome e ds d
-unfolding buildingText building
-built-text e t w ds d q s r =
-    ap (λ (a : Answer (List Description)). bind a (building e w)) q
-    ∙ (ap (λ (a : Answer Unit). andThen a (bind (wantedIn ds w) (outcome e ds))) s
-    ∙ ap (λ (a : Answer ℕ). bind a (outcome e ds)) r)
 
 -- ---- the wanted description is one of the text's
 

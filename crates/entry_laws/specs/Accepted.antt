@@ -12,7 +12,7 @@ use Rattle.base.specs.If.{if_then_else_}
 use Rattle.base.proofs.IfLaws.{and-left, and-right}
 use Rattle.base.proofs.ScanLaws.{scan-ge}
 use Rattle.word.specs.Word.{word}
-use Rattle.word.specs.Nul.{notNul, nulFrom}
+use Rattle.word.specs.Nul.{NoNul, notNulAt, nulFrom}
 use Rattle.edition.specs.declared.Place.{Place}
 use Rattle.entry.specs.declared.Sizes.{Sizes}
 use Rattle.entry.specs.declared.Offset.{Offset}
@@ -23,7 +23,7 @@ use Rattle.base.specs.Answer.{Answer, refused, gives}
 use Rattle.entry.specs.Layout.{sizesOf, booleansAt, numbersAt, stringsAt, tableAt, sizeOf}
 use Rattle.entry.specs.Reading.{bytesOf, offset, okCounts, okNames, okBooleans, okPad, okNumbers, okOffset, okStrings}
 use Rattle.entry.specs.Reading.{reading, namesPart, slotIn, numberIn, offsetIn, contentAt, partIn, stringIn}
-use Rattle.entry_laws.specs.Sound.{NoNul, NumberFits, ContentFree}
+use Rattle.entry_laws.specs.Sound.{NumberFits, ContentFree}
 use Rattle.entry_laws.specs.Nul.{before-nul-free}
 use Rattle.entry_laws.specs.Slots.{Passes, slots-pass}
 
@@ -116,7 +116,7 @@ content-free : (f : List ℕ) (s : Sizes) (o : Offset) → NoNul (bytesOf f (con
 unfolding contentAt
 content-free f s o =
     let g : tableAt s + o .0 ≤ nulFrom f (tableAt s + o .0) (sizeOf s)
-    = scan-ge (notNul f) (tableAt s + o .0) (sizeOf s - (tableAt s + o .0)) in
+    = scan-ge (notNulAt f) (tableAt s + o .0) (sizeOf s - (tableAt s + o .0)) in
     before-nul-free f (tableAt s + o .0) (sizeOf s) (nulFrom f (tableAt s + o .0) (sizeOf s) - (tableAt s + o .0))
     (omega arith)
 

@@ -1,6 +1,6 @@
 -- Demands 2 and 3 for written files, over the definitions that the calls' contracts name.
 -- Assumes nothing.
-use mathlib.Core.Path.{_≡_, refl, sym, ap, _∙_, subst}
+use mathlib.Core.Path.{_≡_, refl, sym, ap, _∙_}
 use mathlib.Core.Bool.{Bool, true, false, _&&_, not}
 use mathlib.Core.List.{List, [], _∷_}
 use Prim.Native.Nat.{ℕ, _+_, _≤_, _<_}
@@ -13,6 +13,7 @@ use Rattle.base.proofs.IfLaws.{and-left, and-right}
 use Rattle.base.specs.Scan.{every}
 use Rattle.base.proofs.ScanLaws.{every-at, every-all}
 use Rattle.base.proofs.TabulateLaws.{each-tabulate}
+use Rattle.word.specs.Nul.{NoNul}
 use Rattle.edition.specs.declared.Edition.{Edition}
 use Rattle.edition.specs.declared.Place.{Place}
 use Rattle.edition.specs.Edition.{okEdition, knows, place}
@@ -27,7 +28,7 @@ use Rattle.entry.specs.Asking.{Opening, openingOf, opening, asking, askingNames
 use Rattle.entry.specs.Asking.{askingString}
 use Rattle.entry.specs.Writing.{Handed, encode, sizesFor, entryOf, numberHanded, stringHanded, booleanFitsAt}
 use Rattle.entry.specs.Writing.{numberFitsAt, stringFitsAt, enoughStates, namesFit, isLent, statesFit, writing}
-use Rattle.entry_laws.specs.Sound.{NoNul, NumberFits, ContentFree, Sound, WrittenIn}
+use Rattle.entry_laws.specs.Sound.{NumberFits, ContentFree, WrittenIn}
 use Rattle.entry_laws.specs.Accepted.{test-passed}
 use Rattle.entry_laws.specs.Round.{partFrom, part-ext}
 use Rattle.entry_laws.specs.Handed.{state-has, entry-edition, enough-test, enough-facts, names-test}

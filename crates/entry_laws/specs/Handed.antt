@@ -11,6 +11,7 @@ use borrow.Author.Tests.{leb-true, eqb-true, eq-eqb, le-leb}
 use Rattle.base.specs.If.{if_then_else_}
 use Rattle.base.proofs.IfLaws.{and-left, and-right}
 use Rattle.base.proofs.TabulateLaws.{length-tabulate}
+use Rattle.word.specs.Nul.{NoNul}
 use Rattle.edition.specs.declared.Edition.{Edition}
 use Rattle.edition.specs.Edition.{okEdition}
 use Rattle.entry.specs.Limits.{shortMost, contentMost}
@@ -18,7 +19,6 @@ use Rattle.entry.specs.State.{State, absent, cancelled, present}
 use Rattle.entry.specs.Reading.{editionOf}
 use Rattle.entry.specs.Writing.{Handed, stateOf, booleanHanded, numberHanded, stringHanded, entryOf, enoughStates}
 use Rattle.entry.specs.Writing.{namesFit, isLent, numberFits, contentFits, numberFitsAt, stringFitsAt}
-use Rattle.entry_laws.specs.Sound.{NoNul}
 use Rattle.entry_laws.specs.Nul.{free-test, test-free}
 
 -- what holds of the two bare states, and of the present one where the kind is 1, holds of the state handed over

@@ -15,7 +15,7 @@ use Rattle.base.specs.Scan.{every}
 use Rattle.base.proofs.ScanLaws.{every-all}
 use Rattle.base.specs.Tabulate.{Each}
 use Rattle.word.specs.Word.{word, Below}
-use Rattle.word.specs.Nul.{nulFrom}
+use Rattle.word.specs.Nul.{NoNul, nulFrom}
 use Rattle.word.proofs.WordLaws.{word-words}
 use Rattle.edition.specs.declared.Place.{Place}
 use Rattle.edition.specs.Edition.{place}
@@ -31,7 +31,7 @@ use Rattle.entry.specs.Reading.{Entry, bytesOf, offset, okCounts, okNames, okBo
 use Rattle.entry.specs.Reading.{okStrings, reading, namesPart, booleanIn, numberIn, offsetIn, contentAt, partIn}
 use Rattle.entry.specs.Reading.{stringIn, heldBoolean, heldNumber, heldString}
 use Rattle.entry.specs.Writing.{offsets, stringTable, sizesFor, header, padding, encode}
-use Rattle.entry_laws.specs.Sound.{Sound, NoNul, NumberFits, ContentFree}
+use Rattle.entry_laws.specs.Sound.{Sound, NumberFits, ContentFree}
 use Rattle.entry_laws.specs.Parts.{headerPart, booleansPart, tablePart, beforeBooleans, beforePad}
 use Rattle.entry_laws.specs.Parts.{beforeNumbers, beforeStrings, beforeTable, afterNames, afterBooleans}
 use Rattle.entry_laws.specs.Parts.{afterPad, afterNumbers}

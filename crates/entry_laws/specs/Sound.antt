@@ -6,15 +6,13 @@ use mathlib.Core.List.{List}
 use Prim.Native.Nat.{ℕ, _≤_}
 use lib.ListN.{length}
 use Rattle.base.specs.Tabulate.{Each}
+use Rattle.word.specs.Nul.{NoNul}
 use Rattle.edition.specs.declared.Edition.{Edition}
 use Rattle.edition.specs.Edition.{okEdition}
 use Rattle.entry.specs.Limits.{fileMost, numberMost, givenNamesMost}
 use Rattle.entry.specs.State.{State, absent, cancelled, present}
 use Rattle.entry.specs.Reading.{Entry, editionOf}
 use Rattle.entry.specs.Writing.{encode}
-
-abbrev pub NoNul : List ℕ → Type 0
-NoNul s = Each (λ b. b ≡ 0 → ⊥) s
 
 abbrev pub NumberFits : State ℕ → Type 0
 NumberFits absent = Unit {0}

@@ -16,7 +16,7 @@ const STRING_MOST: usize = 1000;
 const SHORT_OUTPUT: usize = 256;
 
 // Expands a string into the free part of the buffer from place at on, and changes the lasting variables in place; a
-// refusal leaves both.
+// refusal leaves both. The output holds no NUL (`expanding-no-nul` of output_laws/specs/NoNul.antt).
 pub fn expand_lent(
     string: &[u8],
     arguments: [i32; 9],
@@ -39,7 +39,7 @@ pub fn expand_lent(
 }
 
 // The same with the lasting variables by value: the answer, and the variables as they are afterwards, on a refusal as
-// they came.
+// they came. The output holds no NUL (`expanding-no-nul` of output_laws/specs/NoNul.antt).
 pub fn expand(
     string: &[u8],
     arguments: [i32; 9],

@@ -39,7 +39,7 @@ fn judge(s: &[u8], i: usize, kept: u64, ran: Ran) -> Ran
 }
 
 // Runs a string from its start, and prints from the buffer's first byte on what fits; the length counts in any case.
-// The number kept is that of the open conditionals, by which form::nest checks each item.
+// The number kept is that of the open conditionals, by which conditionals::nest checks each item.
 pub fn run(s: &[u8], arguments: &mut [i32; 9], lasting: &mut [i32; 26], out: &mut [u8]) -> Ran
     requires { ⌜ (length (now s) ≤ stringMost) × (length (now arguments) ≡ 9) ⌝ }
     ensures { λ r. ⌜ RunAs (formOf (now (s .entry)))

@@ -2,7 +2,7 @@
 -- Assumes nothing.
 use mathlib.Core.Bool.{Bool, true, false, _&&_, _||_, not}
 use mathlib.Core.List.{List, [], _∷_, _++_}
-use Prim.Native.Nat.{ℕ, zero, suc, _+_, _-_, _%_, _^_}
+use Prim.Native.Nat.{ℕ, zero, suc, _+_, _-_, _^_}
 use Prim.Native.Char.{code}
 use lib.Bits.{bitAnd, bitOr, bitXor}
 use lib.Dec.{eqb, leb, ltb}
@@ -12,7 +12,8 @@ use lib.Signed.{ltZ}
 use mir.Syntax.{w32}
 use mir.Val.{ofZ, toZ}
 use Rattle.base.specs.If.{if_then_else_}
-use Rattle.signed.specs.Signed.{isZero, low32, add, subtract, multiply, divide, remainder}
+use Rattle.signed.specs.Signed.{isZero, add, subtract, multiply, divide, remainder}
+use Rattle.characters.specs.Character.{character}
 use Rattle.expansion.specs.Limits.{stackMost}
 use Rattle.expansion.specs.declared.Item.{Item}
 use Rattle.expansion.specs.declared.Item.the-variants as I
@@ -73,10 +74,6 @@ applied Or a b = truth (not (isZero a) || not (isZero b))
 -- `%~`: every bit the other way
 unfoldable pub inverted : ℤ → ℤ
 inverted v = toZ w32 (2 ^ 32 - 1 - ofZ w32 v)
-
--- "`%c` (value mod 256, one byte)"
-unfoldable pub character : ℤ → ℕ
-character v = low32 v % 256
 
 -- capital letters are the lasting variables
 unfoldable pub loaded : Machine → ℕ → ℤ

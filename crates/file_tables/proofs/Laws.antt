@@ -13,7 +13,7 @@ use Rattle.base.proofs.IfLaws.{below-or, true-false, and-left}
 use Rattle.base.specs.Scan.{scan}
 use Rattle.base.proofs.ScanLaws.{scan-all, scan-before, scan-ext}
 use Rattle.word.specs.Word.{word}
-use Rattle.word.specs.Nul.{nulFrom, notNul}
+use Rattle.word.specs.Nul.{nulFrom, notNulAt}
 use Rattle.edition.specs.declared.Edition.{Edition}
 use Rattle.edition.specs.Edition.{okEdition}
 use Rattle.entry.specs.declared.Sizes.{Sizes}
@@ -125,7 +125,7 @@ module _ {f : List ℕ} {s : Sizes} {t : Tables} (k : Framed f s t) where
 -- ---- offsets that have a NUL at or after them
 
 -- n is one past the last NUL of the k bytes from t on
-pub offsets-below : (f : List ℕ) (t k n : ℕ) → n ≤ k → ((j : ℕ) → n ≤ j → j < k → notNul f (t + j) ≡ true) → (0 < n → getD f (t + (n - 1)) 0 ≡ 0)
+pub offsets-below : (f : List ℕ) (t k n : ℕ) → n ≤ k → ((j : ℕ) → n ≤ j → j < k → notNulAt f (t + j) ≡ true) → (0 < n → getD f (t + (n - 1)) 0 ≡ 0)
     → (c : ℕ) → (ltb c k && ltb (nulFrom f (t + c) (t + k)) (t + k)) ≡ ltb c n
 offsets-below f t k n l past last c = below-or c n before after
   where
@@ -134,7 +134,7 @@ offsets-below f t k n l past last c = below-or c n before after
         let z : getD f (t + (n - 1)) 0 ≡ 0 = last (omega arith) in
         let m : nulFrom f (t + c) (t + k) < t + k =
         below-or (nulFrom f (t + c) (t + k)) (t + k) (λ g. g) (λ g.
-        let y : notNul f (t + (n - 1)) ≡ true = scan-before (notNul f) (t + c) (t + k - (t + c)) (t + (n - 1)) (omega arith) (omega arith) in
+        let y : notNulAt f (t + (n - 1)) ≡ true = scan-before (notNulAt f) (t + c) (t + k - (t + c)) (t + (n - 1)) (omega arith) (omega arith) in
         true-false (sym y ∙ ap not (eq-eqb _ _ z))) in
         rw (lt-ltb c k (omega arith), lt-ltb _ _ m, lt-ltb c n h)
 
@@ -143,9 +143,9 @@ offsets-below f t k n l past last c = below-or c n before after
         below-or c k
         (λ g.
         let a : nulFrom f (t + c) (t + k) ≡ t + c + (t + k - (t + c)) =
-        scan-all (notNul f) (t + c) (t + k - (t + c)) (λ j p q.
+        scan-all (notNulAt f) (t + c) (t + k - (t + c)) (λ j p q.
         let e : t + (j - t) ≡ j = omega arith in
-        ap (notNul f) (sym e) ∙ past (j - t) (omega arith) (omega arith)) in
+        ap (notNulAt f) (sym e) ∙ past (j - t) (omega arith) (omega arith)) in
         rw (lt-ltb c k g, le-ltb (nulFrom f (t + c) (t + k)) (t + k) (omega arith), le-ltb c n h))
         (λ g. rw (le-ltb c k g, le-ltb c n h))
 

@@ -110,7 +110,7 @@ pub fn take(
             Step::Go(written + count)
         }
         Item::Character => {
-            print::put_byte(out, written, operators::character(b));
+            print::put_byte(out, written, characters::byte_of(b));
             Step::Go(written + 1)
         }
         Item::Constant(v) => Step::Push(v),

@@ -12,7 +12,7 @@ use Rattle.base.specs.If.{if_then_else_}
 use Rattle.base.proofs.IfLaws.{true-false, and-right}
 use Rattle.base.proofs.ScanLaws.{scan-ge}
 use Rattle.word.specs.Word.{word}
-use Rattle.word.specs.Nul.{notNul, nulFrom}
+use Rattle.word.specs.Nul.{notNulAt, nulFrom}
 use Rattle.edition.specs.declared.Edition.{Edition}
 use Rattle.edition.specs.declared.Place.{Place}
 use Rattle.edition.specs.Edition.{okEdition, knows}
@@ -209,7 +209,7 @@ names-inside e f q g =
 content-inside : (f : List ℕ) (s : Sizes) (o : Offset) → okOffset f s o ≡ true → contentAt f s o .start + contentAt f s o .length ≤ sizeOf s
 unfolding contentAt okOffset
 content-inside f s o h =
-    let g : tableAt s + o .0 ≤ nulFrom f (tableAt s + o .0) (sizeOf s) = scan-ge (notNul f) (tableAt s + o .0) (sizeOf s - (tableAt s + o .0)) in
+    let g : tableAt s + o .0 ≤ nulFrom f (tableAt s + o .0) (sizeOf s) = scan-ge (notNulAt f) (tableAt s + o .0) (sizeOf s - (tableAt s + o .0)) in
     let l : nulFrom f (tableAt s + o .0) (sizeOf s) < sizeOf s = ltb-true _ _ (and-right (ltb (o .0) (s .table)) _ h) in
     omega arith
 

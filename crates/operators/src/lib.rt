@@ -2,7 +2,7 @@
 // expansion/specs/Machine.antt for all values. Assumed: nothing.
 ghost use mathlib.Core.Path.{_≡_};
 ghost use Rattle.signed.specs.Signed.{isZero};
-ghost use Rattle.expansion.specs.Machine.{applied, inverted, character, truth};
+ghost use Rattle.expansion.specs.Machine.{applied, inverted, truth};
 use expansion::Operator;
 
 fn bit_and(a: i32, b: i32) -> i32
@@ -86,11 +86,4 @@ pub fn inverted(v: i32) -> i32
     ensures { λ r. ⌜ r ≡ inverted v ⌝ }
 {
     signed::value_of(4294967295 - signed::bits_of(v))
-}
-
-// `%c`
-pub fn character(v: i32) -> u8
-    ensures { λ r. ⌜ r ≡ character v ⌝ }
-{
-    (signed::bits_of(v) % 256) as u8
 }

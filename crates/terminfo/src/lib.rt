@@ -118,7 +118,8 @@ pub fn open_string<'a>(file: &'a [u8], edition: Edition, place: Place) -> String
 }
 
 // Expands a string into the free part of the buffer from place at on. The lasting variables are lent and change in
-// place; on a refusal they and the buffer are as they were.
+// place; on a refusal they and the buffer are as they were. The output holds no NUL (`expanding-no-nul` of
+// output_laws/specs/NoNul.antt).
 pub fn expand(
     string: &[u8],
     arguments: [i32; 9],
@@ -151,7 +152,8 @@ pub enum ExpandedString {
 }
 
 // Opens a file and expands the string at a place, with lasting variables that are 0 at first and are not given back.
-// Its parameters are plain: a caller's proof is made by the check.
+// Its parameters are plain: a caller's proof is made by the check. The output holds no NUL (`expanding-at-no-nul` of
+// specs/NoNul.antt).
 pub fn open_expand(
     file: &[u8],
     edition: Edition,

@@ -335,7 +335,7 @@ pub extern "C" fn terminfo_capability(kind: u8, place: usize) -> u64
 }
 
 // Expands a string into the buffer from place at on: the steps above the output's length, or the refusal. The lasting
-// variables change in place.
+// variables change in place. The output holds no NUL (`expanding-no-nul` of output_laws/specs/NoNul.antt).
 #[no_mangle]
 pub extern "C" fn terminfo_expand(
     string: &[u8],

@@ -6,15 +6,15 @@ use mathlib.Core.List.{List, [], _∷_}
 use Prim.Native.Nat.{ℕ, zero, suc}
 use lib.ListN.{length, getD, set, replicate, length-set, length-replicate}
 use Rattle.base.specs.Tabulate.{Each}
+use Rattle.base.proofs.TabulateLaws.{each-replicate}
 use Rattle.base.specs.Answer.{Answer, refused, gives, mapAnswer}
 use Rattle.edition.specs.declared.Edition.{Edition}
 use Rattle.edition.specs.declared.Place.{Place}
-use Rattle.entry.specs.State.{State, absent, cancelled, present}
+use Rattle.entry.specs.State.{State, absent}
 use Rattle.entry.specs.Reading.{Entry, editionOf}
-use Rattle.entry.specs.Merging.{over}
 use Rattle.entry_laws.specs.Sound.{NumberFits, ContentFree}
 use Rattle.text.specs.Describing.{Saying, nothing, boolean, number, string, uses}
-use Rattle.text.specs.Describing.{Judging, judging, SayingAt, Fields, fieldsTo, sayingsFrom}
+use Rattle.text.specs.Describing.{SayingAt, Fields, sayingsFrom}
 use Rattle.text.specs.Describing.{standing, with-saying, described, bare, describedFrom}
 use Rattle.text_laws.specs.JudgingLaws.{refused-gives, given-is, Fits, judged-fits}
 use Rattle.text_laws.specs.SayingsLaws.{SaidIn, sayings-said}
@@ -119,10 +119,6 @@ fields-sound e t i x y h w = by-answer (sayingsFrom e t i) refl w
     by-answer (gives f) q u =
         subst (λ (z : Entry). Sound-states e z × (z .names ≡ x .names)) (given-is u)
         (described-sound e x (f .sayings) h (said-fit e t (f .sayings) (sayings-said e t i f q)))
-
-each-replicate : {A : Type 0} (P : A → Type 0) (n : ℕ) (v : A) → P v → Each P (replicate n v)
-each-replicate P zero v w = tt
-each-replicate P (suc n) v w = (w, each-replicate P n v w)
 
 pub bare-sound : (e : Edition) (names : List ℕ) → Sound-states e (bare e names)
 bare-sound e names =

@@ -8,7 +8,7 @@ use native.Mathlib.Omega.{arith}
 use lib.Dec.{eqb, leb}
 use lib.ListN.{length, getD}
 use borrow.Author.Tests.{eqb-false, leb-true, eq-eqb, ne-eqb}
-use Rattle.base.proofs.IfLaws.{and-left}
+use Rattle.base.proofs.IfLaws.{and-left, if-both}
 use Rattle.text.specs.declared.NumberBase.{NumberBase}
 use Rattle.text.specs.declared.NumberBase.the-variants.{Octal, Decimal, Hexadecimal}
 use Rattle.text.specs.declared.ByteClass.the-variants as C
@@ -24,7 +24,7 @@ use Rattle.entry.specs.Limits.{numberMost}
 use Rattle.text.specs.Numbers.{digitsMost, withDigits, numberForm, digitsIn, digitsAt, numberAt}
 use Rattle.text.specs.Fields.{stringForm, formAt, closed, namedAt, fieldAt}
 use Rattle.text_laws.specs.Runs.{run-ge, within}
-use Rattle.text_laws.specs.Reads.{if-both, read-after}
+use Rattle.text_laws.specs.Reads.{read-after}
 
 -- a byte other than 0 stands in the text
 pub byte-within : (t : List ℕ) (i b : ℕ) → eqb 0 b ≡ false → getD t i 0 ≡ b → i < length t

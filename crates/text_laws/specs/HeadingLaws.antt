@@ -14,10 +14,10 @@ use borrow.Author.Tests.{lt-leb, lt-ltb, le-ltb}
 use Rattle.base.specs.If.{if_then_else_}
 use Rattle.base.proofs.IfLaws.{true-false, and-left, and-right, below-or, is-false}
 use Rattle.base.specs.Scan.{scan, every}
-use Rattle.base.proofs.ScanLaws.{scan-all, scan-ge, scan-before, scan-fails, every-at, every-all}
+use Rattle.base.proofs.ScanLaws.{scan-ge, scan-before, scan-fails, every-at, every-all}
 use Rattle.base.specs.Tabulate.{Each}
-use Rattle.base.proofs.TabulateLaws.{each-of, each-at}
-use Rattle.word.specs.Nul.{notNul, nulFrom}
+use Rattle.base.proofs.TabulateLaws.{each-of}
+use Rattle.word.specs.Nul.{NotNul, NoNul}
 use Rattle.text.specs.declared.ByteClass.{ByteClass}
 use Rattle.text.specs.declared.ByteClass.the-variants as C
 use Rattle.text.specs.declared.Header.{Header}
@@ -366,9 +366,6 @@ module _ (n : List ℕ) (several : Bool) (i e : ℕ) (q : e ≡ runEnd C.Alias n
 
 -- ---- right names hold no NUL
 
-abbrev NotNul : ℕ → Type 0
-NotNul b = b ≡ 0 → ⊥
-
 -- what holds of each byte of each name, and of the bar, holds of each byte
 parted-each : (P : ℕ → Type 0) (s : List ℕ) → P 124 → Each (Each P) (namesIn s) → Each P s
 unfolding parted
@@ -384,18 +381,18 @@ parted-each P (x ∷ s) b e = by-test (eqb x 124) refl e (λ r. parted-each P s 
     by-test true q h rest = (subst P (sym (eqb-true x 124 q)) b, rest (h .1))
     by-test false q h rest = let p = on-first (namesIn s) h in (p .0, rest (p .1))
 
-nul-out : (c : ByteClass) → isIn c 0 ≡ false → (s : List ℕ) → madeOf c s ≡ true → Each NotNul s
+nul-out : (c : ByteClass) → isIn c 0 ≡ false → (s : List ℕ) → madeOf c s ≡ true → NoNul s
 nul-out c z s h = each-of NotNul s 0 (λ j l q. true-false (sym (made-at c s h j l) ∙ ap (isIn c) q ∙ z))
 
-alias-free : (s : List ℕ) → madeOf C.Alias s ≡ true → Each NotNul s
+alias-free : (s : List ℕ) → madeOf C.Alias s ≡ true → NoNul s
 unfolding isIn isAlias
 alias-free s h = nul-out C.Alias refl s h
 
-last-free : (s : List ℕ) → madeOf C.LastName s ≡ true → Each NotNul s
+last-free : (s : List ℕ) → madeOf C.LastName s ≡ true → NoNul s
 unfolding isIn isLastName
 last-free s h = nul-out C.LastName refl s h
 
-each-free : (ns : List (List ℕ)) → rightNames ns ≡ true → Each (Each NotNul) ns
+each-free : (ns : List (List ℕ)) → rightNames ns ≡ true → Each NoNul ns
 unfolding rightNames
 each-free [] h = tt
 each-free (n ∷ []) h = true-false (sym h)
@@ -410,14 +407,8 @@ each-free (n ∷ m ∷ l ∷ ns) h = (
 )
 
 module _ (n : List ℕ) (h : rightNames (namesIn n) ≡ true) where
-  pub names-free : Each (λ (b : ℕ). b ≡ 0 → ⊥) n
+  pub names-free : NoNul n
   names-free = parted-each NotNul n (λ q. omega arith) (each-free (namesIn n) h)
-
-  pub names-no-nul : nulFrom n 0 (length n) ≡ length n
-  names-no-nul =
-      scan-all (notNul n) 0 (length n - 0) (λ j _ l. let q = ne-eqb (getD n j 0) 0
-      (each-at NotNul n j 0 names-free (omega arith)) in rw q)
-      ∙ omega arith
 
 pub names-some : (n : List ℕ) → rightNames (namesIn n) ≡ true → 1 ≤ length n
 unfolding parted rightNames

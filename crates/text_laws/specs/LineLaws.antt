@@ -1,23 +1,21 @@
 -- Blank lines and comment lines: the laws of skipping them.
 -- Assumes nothing.
-use mathlib.Core.Path.{_≡_, refl, sym, ap, _∙_, subst}
-use mathlib.Core.Bool.{Bool, true, false}
+use mathlib.Core.Path.{_≡_, subst}
 use mathlib.Core.List.{List}
 use Prim.Native.Nat.{ℕ, _+_, _-_, _≤_, _<_}
 use native.Mathlib.Omega.{arith}
 use lib.Dec.{eqb, leb}
 use lib.ListN.{length, getD}
 use borrow.Author.Tests.{le-leb, lt-leb, leb-false, eq-eqb, ne-eqb, eqb-true}
-use Rattle.base.specs.If.{if_then_else_}
+use Rattle.base.proofs.IfLaws.{if-both}
 use Rattle.base.specs.Loop.{Turn, go, stop}
 use Rattle.base.proofs.LoopLaws.{loop-go, loop-stop, loop-ind}
 use Rattle.text.specs.declared.ByteClass.the-variants as C
 use Rattle.text.specs.declared.Line.{Line}
 use Rattle.text.specs.declared.Line.the-variants.{End, Column, Indented}
 use Rattle.text.specs.Bytes.{runEnd}
-use Rattle.text.specs.Lines.{lineTurnAt, lineTurn, lineAt, nextAt}
+use Rattle.text.specs.Lines.{lineTurn, lineAt, nextAt}
 use Rattle.text_laws.specs.Runs.{run-ge}
-use Rattle.text_laws.specs.Reads.{if-both}
 
 -- the first nonblank
 abbrev nonblank : List ℕ → ℕ → ℕ

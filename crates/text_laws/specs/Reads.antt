@@ -1,7 +1,6 @@
 -- Strings of source text: an item ends past its place, so reading ends; what reading gives.
 -- Assumes nothing.
 use mathlib.Core.Path.{_≡_, refl, sym, ap, _∙_, subst}
-use mathlib.Core.Bool.{Bool, true, false}
 use mathlib.Core.List.{List, [], _∷_, _++_, append-assoc, append-nil}
 use Prim.Native.Nat.{ℕ, _+_, _-_, _*_, _≤_, _<_}
 use native.Mathlib.Omega.{arith}
@@ -9,11 +8,11 @@ use native.Mathlib.Nat.{le-refl}
 use lib.Dec.{eqb, leb, ltb}
 use borrow.Author.Tests.{eq-eqb}
 use lib.ListN.{length, getD, length-append, List·getD-eq-default}
-use Rattle.base.specs.If.{if_then_else_}
-use Rattle.base.proofs.IfLaws.{true-false, below-or}
+use Rattle.base.proofs.IfLaws.{true-false, below-or, if-both}
 use Rattle.base.specs.Loop.{go, stop}
 use Rattle.base.proofs.LoopLaws.{loop-go, loop-stop, loop-ind}
-use Rattle.base.specs.Tabulate.{Each}
+use Rattle.base.proofs.TabulateLaws.{each-append}
+use Rattle.word.specs.Nul.{NotNul, NoNul}
 use Rattle.text.specs.declared.ByteClass.the-variants as C
 use Rattle.text.specs.declared.Content.the-variants as W
 use Rattle.text.specs.declared.StringItem.{StringItem}
@@ -23,12 +22,6 @@ use Rattle.text.specs.Strings.{digitAt, letterOf, octalOf, escapeAt, isControl,
 use Rattle.text.specs.Strings.{storedByte, Reading, Read, whole, malformed, readTurn, readFrom, readAt, readBytes}
 use Rattle.text.specs.Strings.{contentOf}
 use Rattle.text_laws.specs.Runs.{run-ge}
-
--- a choice has a property that both its values have
-pub if-both : {A : Type 0} (P : A → Type 0) (b : Bool) {x y : A} → (b ≡ true → P x) → (b ≡ false → P y)
-    → P (if b then x else y)
-if-both P true hx hy = hx refl
-if-both P false hx hy = hy refl
 
 -- ---- items
 
@@ -207,30 +200,23 @@ read-after t i s k e = subst (After t i) e (from-after t (record { at = i; bytes
 
 -- ---- no byte that a string stands for is 0
 
-each-more : (P : ℕ → Type 0) (xs : List ℕ) (x : ℕ) → Each P xs → P x → Each P (xs ++ (x ∷ []))
-each-more P [] x h p = (p, tt)
-each-more P (y ∷ ys) x h p = (h .0, each-more P ys x (h .1) p)
-
-stored-free : (b : ℕ) → storedByte b ≡ 0 → ⊥
+stored-free : (b : ℕ) → NotNul (storedByte b)
 unfolding storedByte
 stored-free b =
-    if-both (λ (x : ℕ). x ≡ 0 → ⊥) (eqb b 0)
+    if-both NotNul (eqb b 0)
     (λ _ e. let y : ⊥ = omega arith in y)
     (λ h e. true-false (sym (eq-eqb b 0 e) ∙ h))
 
-abbrev Free : List ℕ → Type 0
-Free xs = Each (λ (b : ℕ). b ≡ 0 → ⊥) xs
-
-from-free : (t : List ℕ) (s : Reading) → Free (s .bytes) → Free (readBytes (readFrom t s))
+from-free : (t : List ℕ) (s : Reading) → NoNul (s .bytes) → NoNul (readBytes (readFrom t s))
 unfolding readBytes
 from-free t =
-    read-ind t (λ (s : Reading) (r : Read). Free (s .bytes) → Free (readBytes r))
+    read-ind t (λ (s : Reading) (r : Read). NoNul (s .bytes) → NoNul (readBytes r))
     (λ s e h. h)
     (λ s h. tt)
-    (λ s r b k l h f. h (each-more (λ (b : ℕ). b ≡ 0 → ⊥) (s .bytes) (storedByte b) f (stored-free b)))
+    (λ s r b k l h f. h (each-append NotNul (s .bytes) (storedByte b ∷ []) f (stored-free b, tt)))
     (λ s r k l h f. h f)
 
-pub read-free : (t : List ℕ) (i : ℕ) → Each (λ (b : ℕ). b ≡ 0 → ⊥) (readBytes (readAt t i))
+pub read-free : (t : List ℕ) (i : ℕ) → NoNul (readBytes (readAt t i))
 read-free t i = from-free t (record { at = i; bytes = [] }) tt
 
 -- ---- the bytes that were read are the first of the whole string's

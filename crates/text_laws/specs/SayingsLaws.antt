@@ -2,13 +2,14 @@
 -- that it gives are those of the fields at their places.
 -- Assumes nothing.
 use mathlib.Core.Path.{_≡_, refl, sym, ap, _∙_, subst}
-use mathlib.Core.List.{List, [], _∷_, _++_}
+use mathlib.Core.List.{List, []}
 use Prim.Native.Nat.{ℕ, _-_, _<_}
 use native.Mathlib.Omega.{arith}
 use lib.ListN.{length}
 use Rattle.base.specs.Loop.{Turn, go, stop}
 use Rattle.base.proofs.LoopLaws.{loop-go, loop-stop, loop-ind}
 use Rattle.base.specs.Tabulate.{Each}
+use Rattle.base.proofs.TabulateLaws.{each-append}
 use Rattle.base.specs.Answer.{Answer, refused, gives}
 use Rattle.edition.specs.declared.Edition.{Edition}
 use Rattle.text.specs.declared.Line.{Line}
@@ -134,10 +135,6 @@ pub record SaidIn (e : Edition) (t : List ℕ) (s : SayingAt) : Type 0 where
   pub within : s .place < length t
   pub next : ℕ
   pub judged : judging e t (s .place) ≡ gives (record { saying = s .saying; next = next })
-
-each-append : {A : Type 0} (P : A → Type 0) (xs ys : List A) → Each P xs → Each P ys → Each P (xs ++ ys)
-each-append P [] ys h w = w
-each-append P (x ∷ xs) ys h w = (h .0, each-append P xs ys (h .1) w)
 
 pub sayings-said : (e : Edition) (t : List ℕ) (i : ℕ) (f : Fields) → sayingsFrom e t i ≡ gives f
     → Each (SaidIn e t) (f .sayings)

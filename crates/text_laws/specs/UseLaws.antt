@@ -9,6 +9,7 @@ use lib.Dec.{eqb, leb}
 use lib.ListN.{length, getD, take, drop, length-drop}
 use lib.Seq.{length-take-le}
 use Rattle.base.specs.If.{if_then_else_}
+use Rattle.base.proofs.IfLaws.{if-both}
 use Rattle.base.specs.Tabulate.{Each}
 use Rattle.base.specs.Answer.{Answer, refused, gives, mapAnswer}
 use Rattle.edition.specs.declared.Edition.{Edition}
@@ -34,7 +35,7 @@ use Rattle.text.specs.Fields.{stringForm, formAt, closed, namedAt, fieldAt}
 use Rattle.text.specs.Describing.{Saying, nothing, boolean, number, string, uses, booleanBy, numberBy, stringBy}
 use Rattle.text.specs.Describing.{sayingOf, useBy, namedSaying, Judging, judging, SayingAt, Fields, sayingsFrom}
 use Rattle.text.specs.Building.{UseAt, withUse, usesIn}
-use Rattle.text_laws.specs.Reads.{if-both, read-after}
+use Rattle.text_laws.specs.Reads.{read-after}
 use Rattle.text_laws.specs.FieldLaws.{field-after}
 use Rattle.text_laws.specs.JudgingLaws.{refused-gives, given-is, judged-field}
 use Rattle.text_laws.specs.SayingsLaws.{SaidIn, sayings-said}

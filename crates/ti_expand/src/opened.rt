@@ -12,7 +12,7 @@ use expansion::Expansion;
 use terminfo::ExpandedString;
 
 // Expands the string at a place into the free part of the buffer from at on, as `terminfo::open_expand` does, by what
-// opening answered.
+// opening answered. The output holds no NUL (`expanding-at-no-nul` of terminfo/specs/NoNul.antt).
 pub fn expand_opened(
     file: &[u8],
     edition: Edition,

@@ -1,7 +1,7 @@
 // The options of ti's commands: `-e EDITION` of every command, one of a command's own, and `--`, which ends them.
-// Proved: the edition given is none that is too large; the one before any -e is the second (`default_edition`); each
-// function is safe and ends. What a word is, `option_words` says. Not stated, and tested: which words stand there.
-// Assumed: what libc and os say of C.
+// Proved: the edition given is none that is too large; the one before any -e is the second (`default_edition`); the
+// place behind an option is as many words on as specs/Steps.antt says; each function is safe and ends. What a word is,
+// `option_words` says. Not stated, and tested: which words stand there. Assumed: what libc and os say of C.
 ghost use mathlib.Core.Path.{_≡_};
 ghost use mathlib.Core.Bool.{true};
 ghost use Prim.Native.Nat.{_+_, _<_};

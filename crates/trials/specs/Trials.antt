@@ -6,9 +6,7 @@ use mathlib.Core.List.{List, [], _∷_, map}
 use Prim.Native.Nat.{ℕ}
 use Rattle.base.specs.Scan.{scan}
 use Rattle.word.specs.Word.{word}
-use Rattle.edition.specs.declared.Edition.{Edition}
 use Rattle.edition.specs.Edition.{okEdition, place}
-use Rattle.entry.specs.declared.Sizes.{Sizes}
 use Rattle.entry.specs.State.{State, absent, cancelled, present, slotOf, okSlot, okBoolean}
 use Rattle.base.specs.Answer.{Answer, refused, gives, numberOf}
 use Rattle.entry.specs.Layout.{sizesOf, sizeOf}
@@ -19,11 +17,12 @@ use Prim.Native.Nat.{zero, suc}
 use lib.IntN.{ℤ, pos, negsuc}
 use lib.ListN.{length, replicate}
 use Rattle.signed.specs.Signed.{low32, wrap, add, subtract, multiply, divide, remainder}
+use Rattle.characters.specs.Character.{character}
 use Rattle.expansion.specs.Items.{singles, found, argumentAt, quotedAt, decimal, bracedAt, storeAt, loadAt}
 use Rattle.expansion.specs.Items.{formatAt, widthAt, percentAt, itemAt}
 use Rattle.expansion.specs.Form.{classOf, classAt, afterIf, afterThen, afterElse, afterEnd, nesting, formFrom, formOf}
 use Rattle.expansion.specs.Print.{digitsFrom, digits, numeral, printed}
-use Rattle.expansion.specs.Machine.{applied, inverted, character, loaded, stored, incremented, arity, effect}
+use Rattle.expansion.specs.Machine.{applied, inverted, loaded, stored, incremented, arity, effect}
 use Rattle.expansion.specs.Machine.{performed, taking, passing, passed, running, run}
 use Rattle.expansion.specs.Expanding.{Expanding, ended, formed, expanding}
 use Rattle.entry.specs.Asking.{opening, asking, askingNumber}

@@ -300,7 +300,7 @@ impl Lasting {
     }
 }
 
-/// What an expansion gives: the bytes, and how many items were taken.
+/// What an expansion gives: the bytes, of which none is 0, and how many items were taken.
 #[derive(Clone, Debug, PartialEq, Eq)]
 pub struct Expanded {
     pub bytes: Vec<u8>,

@@ -226,6 +226,7 @@ fn what_is_written_is_read() -> Result<(), Refusal> {
 #[test]
 fn strings_are_expanded() {
     assert_eq!(expanded(b"\x1b=%p1%' '%+%c%p2%' '%+%c", &[3, 12]), Ok((b"\x1b=#,".to_vec(), 10)));
+    assert_eq!(expanded(b"\x14%p1%c%p2%c", &[0, 256]), Ok((b"\x14\x80\x80".to_vec(), 5)));
     assert_eq!(expanded(b"%p1%03d", &[-5]), Ok((b"-05".to_vec(), 2)));
     assert_eq!(expanded(b"\x1b[%i%p1%d;%p2%dH", &[0, 0]).unwrap().0, b"\x1b[1;1H");
     assert_eq!(expanded(b"%p1%99d", &[1]).unwrap().0.len(), 99);

@@ -6,14 +6,14 @@ use mathlib.Core.Path.{_≡_}
 use native.Mathlib.Decide.{ℕ-discrete}
 use native.Mathlib.Omega.{arith}
 use borrow.Author.Tests.{ne-eqb}
-use Rattle.word.specs.Nul.{notNul}
+use Rattle.word.specs.Nul.{notNulAt}
 use Rattle.file_tables.proofs.Laws.{offsets-below}
 use borrow.Author.Needs.{needs}
 use Rattle.file_tables.proofs.offsets_end.Statement.{statement}
 use Rattle.file_tables.proofs.offsets_end.Tie as tie
 
 abbrev Inv-loop : tie.InvT-loop
-Inv-loop file at n end₀ end = (end ≤ n) × ((j : ℕ) → end ≤ j → j < n → notNul file (at + j) ≡ true)
+Inv-loop file at n end₀ end = (end ≤ n) × ((j : ℕ) → end ≤ j → j < n → notNulAt file (at + j) ≡ true)
 
 abbrev μ-loop : tie.MeasureT-loop
 μ-loop file at n end₀ end = end

@@ -10,8 +10,9 @@ use mir.Facts.{toZ-ofZ}
 use borrow.Author.Needs.{needs}
 use Rattle.signed.specs.Signed.{isZero}
 use Rattle.signed.proofs.Laws.{again, called, called-two}
+use Rattle.characters.specs.Character.{character}
 use Rattle.print.specs.Emit.{emitted}
-use Rattle.expansion.specs.Machine.{effect, applied, truth, inverted, character, stored}
+use Rattle.expansion.specs.Machine.{effect, applied, truth, inverted, stored}
 use Rattle.machine.specs.declared.Step.the-variants.{Push, Go}
 use Rattle.variables.specs.Machines.{machine}
 use Rattle.machine.specs.Steps.{stepOf, machineAfter, printedBy}
@@ -38,7 +39,7 @@ returns-4 : tie.Need-returns-4
 unfolding effect stepOf machineAfter printedBy
 returns-4 c st =
     let s = c .before .before .before .before .before .before .before .before in
-    let e : c .before .before .before .character .result ≡ character (s .args .b) = c .before .before .before .character .ensures ∙ ap character (toZ-ofZ (s .fits .b)) in
+    let e : c .before .before .before .byte-of .result ≡ character (s .args .b) = c .before .before .before .byte-of .ensures ∙ ap character (toZ-ofZ (s .fits .b)) in
     rw (c .before .before .before .before .before .enum-told .given .1) (record { step = refl; after = refl; output = c .before .before .put-byte2 .ensures ∙ ap (λ (x : ℕ). emitted (s .args .out .now) (s .args .written) (x ∷ [])) e; short = omega arith })
 
 returns-5 : tie.Need-returns-5

@@ -4,7 +4,7 @@ use lib.ListN.{length}
 use native.Mathlib.Omega.{arith}
 use Prim.Native.Nat.{_+_, _-_}
 use Rattle.base.proofs.ScanLaws.{scan-ge}
-use Rattle.word.specs.Nul.{notNul}
+use Rattle.word.specs.Nul.{notNulAt}
 use Rattle.opened_file.proofs.Laws.{opened-content}
 use Rattle.opened_file.proofs.content_at.Statement.{statement}
 use Rattle.opened_file.proofs.content_at.Tie as tie
@@ -13,7 +13,7 @@ add-start : tie.Need-add-start
 add-start c =
     let f = now (c .before .before .before .args .file) in
     let a = c .before .before .before .args .t .«table_at» + c .before .before .before .args .offset .0 in
-    let g = scan-ge (notNul f) a (length f - a) in
+    let g = scan-ge (notNulAt f) a (length f - a) in
     let l = c .before .before .before .pre .1 in
     let k = c .before .before .before .good in
     omega arith
@@ -25,7 +25,7 @@ sub-t7 : tie.Need-sub-t7
 sub-t7 c =
     let f = now (c .before .before .before .before .args .file) in
     let a = c .before .before .before .before .args .t .«table_at» + c .before .before .before .before .args .offset .0 in
-    let g = scan-ge (notNul f) a (length f - a) in
+    let g = scan-ge (notNulAt f) a (length f - a) in
     let q = c .nul-from .ensures in
     omega arith
 

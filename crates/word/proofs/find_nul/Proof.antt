@@ -5,7 +5,7 @@ use mathlib.Core.Path.{_≡_, refl, sym, _∙_}
 use borrow.Author.Tests.{ne-eqb}
 use borrow.Author.Needs.{needs}
 use Rattle.base.proofs.ScanLaws.{scan-step, scan-hit, scan-end}
-use Rattle.word.specs.Nul.{nulFrom, notNul}
+use Rattle.word.specs.Nul.{nulFrom, notNulAt}
 use Rattle.word.proofs.find_nul.Statement.{statement}
 use Rattle.word.proofs.find_nul.Tie as tie
 
@@ -25,7 +25,7 @@ returns : tie.Need-returns Inv-loop μ-loop
 returns c =
     let t = c .before .before .before in
     let a = t .before .args in
-    sym (t .loop .inv ∙ scan-hit (notNul (now (a .f))) (t .loop .i) (a .e) (rw (c .if1 .taken)) (c .before .before .loop-test .taken))
+    sym (t .loop .inv ∙ scan-hit (notNulAt (now (a .f))) (t .loop .i) (a .e) (rw (c .if1 .taken)) (c .before .before .loop-test .taken))
 
 add-i : tie.Need-add-i Inv-loop μ-loop
 add-i c = search needs
@@ -37,12 +37,12 @@ loop-again : tie.Need-loop-again Inv-loop μ-loop
 loop-again c =
     let t = c .before .before .before in
     let a = t .before .args in
-    t .loop .inv ∙ scan-step (notNul (now (a .f))) (t .loop .i) (a .e) (rw (ne-eqb _ _ (c .if1 .left))) (c .before .before .loop-test .taken)
+    t .loop .inv ∙ scan-step (notNulAt (now (a .f))) (t .loop .i) (a .e) (rw (ne-eqb _ _ (c .if1 .left))) (c .before .before .loop-test .taken)
 
 returns-2 : tie.Need-returns-2 Inv-loop μ-loop
 returns-2 c =
     let a = c .before .before .args in
-    sym (c .before .loop .inv ∙ scan-end (notNul (now (a .f))) (c .before .loop .i) (a .e) (c .loop-test .left))
+    sym (c .before .loop .inv ∙ scan-end (notNulAt (now (a .f))) (c .before .loop .i) (a .e) (c .loop-test .left))
 
 pub find-nul-spec : {M : Type 1} → statement M
 find-nul-spec =

@@ -8,7 +8,7 @@ use native.Mathlib.Omega.{arith}
 use lib.ListN.{length}
 use borrow.Author.Tests.{ne-eqb, eq-eqb}
 use Rattle.base.proofs.ScanLaws.{scan-ge, scan-step, scan-hit}
-use Rattle.word.specs.Nul.{nulFrom, notNul}
+use Rattle.word.specs.Nul.{nulFrom, notNulAt}
 use Rattle.word.proofs.nul_from.Statement.{statement}
 use Rattle.word.proofs.nul_from.Tie as tie
 
@@ -21,7 +21,7 @@ abbrev μ-loop : tie.MeasureT-loop
 -- a place from which on there is a NUL
 below : (f : List ℕ) (a i : ℕ) → nulFrom f a (length f) < length f → nulFrom f a (length f) ≡ nulFrom f i (length f)
     → i < length f
-below f a i h q = let g = scan-ge (notNul f) i (length f - i) in omega arith
+below f a i h q = let g = scan-ge (notNulAt f) i (length f - i) in omega arith
 
 loop-holds : tie.Need-loop-holds Inv-loop μ-loop
 loop-holds c = refl
@@ -48,7 +48,7 @@ loop-again : tie.Need-loop-again Inv-loop μ-loop
 loop-again c =
     let a = c .before .before .before .args in
     c .before .before .loop .inv
-    ∙ scan-step (notNul (now (a .f))) (c .before .before .loop .i) (length (now (a .f))) (rw (ne-eqb _ _ (c .if1 .taken)))
+    ∙ scan-step (notNulAt (now (a .f))) (c .before .before .loop .i) (length (now (a .f))) (rw (ne-eqb _ _ (c .if1 .taken)))
     (below (now (a .f)) (a .a) (c .before .before .loop .i) (c .before .before .before .pre) (c .before .before .loop .inv))
 
 returns : tie.Need-returns Inv-loop μ-loop
@@ -56,7 +56,7 @@ returns c =
     let a = c .before .before .before .args in
     sym
     (c .before .before .loop .inv
-    ∙ scan-hit (notNul (now (a .f))) (c .before .before .loop .i) (length (now (a .f))) (rw (eq-eqb _ _ (c .if1 .left)))
+    ∙ scan-hit (notNulAt (now (a .f))) (c .before .before .loop .i) (length (now (a .f))) (rw (eq-eqb _ _ (c .if1 .left)))
     (below (now (a .f)) (a .a) (c .before .before .loop .i) (c .before .before .before .pre) (c .before .before .loop .inv)))
 
 pub nul-from-spec : {M : Type 1} → statement M

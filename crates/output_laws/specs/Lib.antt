@@ -1,0 +1,4 @@
+pub mod Outputs
+pub mod Printed
+pub mod NeverNul
+pub mod NoNul

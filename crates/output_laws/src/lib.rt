@@ -1,0 +1,1 @@
+// Laws of the output of an expansion (expansion/specs). No code: see specs/.
