@@ -83,6 +83,12 @@ static void open_ours(void) {
     kept = terminfo_kind(answers[0]) + terminfo_value(answers[1]) + terminfo_start(answers[2]);
 }
 
+/* Opens an entry that may be refused. */
+static void check_ours(void) {
+    uint64_t tables[10];
+    kept = terminfo_open(files[0], lengths[0], BOOLEANS, NUMBERS, STRINGS, tables);
+}
+
 static void list_ours(void) {
     static uint8_t booleans[BOOLEANS], numbers[NUMBERS], present[STRINGS];
     static uint32_t values[NUMBERS];
@@ -258,6 +264,7 @@ static const Row rows[] = {
     {"ours", "compile1", compile_in_first},
     {"ours", "compile-named", compile_named},
     {"ours", "compile-all", compile_all},
+    {"ours", "check", check_ours},
     {"ours", "merge", merge_ours},
     {"ours", "merge512", merge_512_strings},
     {"ours", "write", write_shared},

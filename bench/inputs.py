@@ -97,6 +97,12 @@ def compiled(text, edition):
     return file
 
 
+def last_slot_bad(file):
+    """The file with an offset past any string table in its last string slot."""
+    at = len(file) - short(file, 10) - 2
+    return file[:at] + b"\xff\x7f" + file[at + 2:]
+
+
 def text_of_strings(size):
     """A text of a multiple of 128 bytes: 128 bytes for the header, then for each string."""
     header = b"bench|strings in octal,\n"
@@ -184,6 +190,7 @@ def main(folder):
     file, first_edition, first, second = xterm
     (folder / "xterm").write_bytes(file)
     (folder / "xterm-first").write_bytes(first_edition)
+    (folder / "xterm-bad").write_bytes(last_slot_bad(first_edition))
     (folder / "xterm-first.ti").write_bytes(first)
     (folder / "xterm-second.ti").write_bytes(second)
     put_strings(folder, "texts", texts)

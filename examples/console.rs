@@ -17,40 +17,44 @@ const BOOLEANS: usize = 37;
 const NUMBERS: usize = 16;
 const STRINGS: usize = 158;
 
+/// The number of a refusal, and the place that it gives: of a file's first offending byte or slot, of a text's field.
+type Refused = (u64, u64);
+fn given(answer: u64) -> Result<u64, Refused> {
+    if answer >> 56 == 0 { Ok(answer) } else { Err((answer >> 56, answer & 0xFFFF_FFFF_FFFF)) }
+}
+
 #[derive(Clone, Copy)]
 enum Kind { Boolean, Number, String }
 /// A file that opening accepted. Each call is lent slices and arrays that are alive until it returns.
 struct Entry<'a>(&'a [u8]);
 impl<'a> Entry<'a> {
-    /// The entry in a file, or the number of the refusal.
-    fn open(file: &'a [u8]) -> Result<Self, u64> {
+    /// The entry in a file.
+    fn open(file: &'a [u8]) -> Result<Self, Refused> {
         let mut tables = [0; 10];
-        let answer = unsafe { terminfo_open(file.as_ptr(), file.len(), BOOLEANS, NUMBERS, STRINGS, tables.as_mut_ptr()) };
-        if answer >> 56 == 0 { Ok(Entry(file)) } else { Err(answer >> 56) }
+        given(unsafe { terminfo_open(file.as_ptr(), file.len(), BOOLEANS, NUMBERS, STRINGS, tables.as_mut_ptr()) })?;
+        Ok(Entry(file))
     }
-    /// The state of the capability of a kind at a place, as it is printed, or the number of the refusal.
-    fn state(&self, kind: Kind, place: usize) -> Result<String, u64> {
+    /// The state of the capability of a kind at a place, as it is printed.
+    fn state(&self, kind: Kind, place: usize) -> Result<String, Refused> {
         let call = [terminfo_boolean, terminfo_number, terminfo_string][kind as usize];
-        let answer = unsafe { call(self.0.as_ptr(), self.0.len(), BOOLEANS, NUMBERS, STRINGS, place) };
+        let answer = given(unsafe { call(self.0.as_ptr(), self.0.len(), BOOLEANS, NUMBERS, STRINGS, place) })?;
         let (start, length) = ((answer >> 24 & 0xFF_FFFF) as usize, (answer & 0xFF_FFFF) as usize);
         match (answer >> 48 & 0xFF, kind) {
             (0, _) => Ok("absent".into()),
             (1, Kind::Boolean) => Ok("present".into()),
             (1, Kind::Number) => Ok(format!("present {}", answer & 0xFFFF)),
             (1, Kind::String) => Ok(format!("present {}", self.0[start..start + length].escape_ascii()).replace("\\x1b", "\\E")),
-            (2, _) => Ok("cancelled".into()),
-            _ => Err(answer >> 56),
+            _ => Ok("cancelled".into()),
         }
     }
 }
 
-fn main() -> Result<(), u64> {
+fn main() -> Result<(), Refused> {
     let text = b"console|track console of 24 x 80,\n\tam, cols#80, colors#8, cup=\\E[%i%p1%d;%p2%dH,\n";
     let mut file = [0; 4096];
     let (buffer, room) = (file.as_mut_ptr(), file.len());
-    let compiled = unsafe { terminfo_compile_first(text.as_ptr(), text.len(), BOOLEANS, NUMBERS, STRINGS, buffer, room) };
-    if compiled >> 56 != 0 { return Err(compiled >> 56); }
-    let entry = Entry::open(&file[..compiled as usize])?;
+    let made = unsafe { terminfo_compile_first(text.as_ptr(), text.len(), BOOLEANS, NUMBERS, STRINGS, buffer, room) };
+    let entry = Entry::open(&file[..given(made)? as usize])?;
     let shown = [("am", Kind::Boolean, AM), ("cols", Kind::Number, COLS), ("colors", Kind::Number, COLORS), ("cup", Kind::String, CUP)];
     for (name, kind, place) in shown {
         println!("{name} {}", entry.state(kind, place)?);

@@ -22,7 +22,10 @@ int main(void)
         uint64_t opened = terminfo_open(file, length, TERMINFO_FIRST_BOOLEANS, TERMINFO_FIRST_NUMBERS, editions[i],
                                         tables);
         if (terminfo_refusal(opened)) {
-            printf("refused %u\n", terminfo_refusal(opened));
+            printf("refused %u", terminfo_refusal(opened));
+            if (terminfo_position(opened))
+                printf(", byte %zu", terminfo_position(opened));
+            printf("\n");
             return 1;
         }
         printf("an edition of %zu strings, %d slots beyond it:\n", editions[i], (int)tables[9]);

@@ -19,11 +19,13 @@
  *     3   a header short is above 32,767, the names size is outside 2 to 128, the edition is too
  *         large, or the writer is given fewer states than the edition counts
  *     4   the names hold a NUL, a file's names lack the closing one, or the writer's names are not
- *         1 to 127 bytes long
- *     5   a boolean byte is none of 0, 1 and 254, or the pad byte is not 0
- *     6   a number slot is above 32,767 and neither 65,535 nor 65,534
- *     7   a string slot is no offset of a string in the table and neither 65,535 nor 65,534, or a
- *         string given to the writer is not in the bytes that were lent
+ *         1 to 127 bytes long; for a file's 4 to 7 bits 0 to 47 give the position of its first
+ *         offending byte or slot: here the first NUL before the last names byte, else that byte
+ *     5   a boolean byte is none of 0, 1 and 254, or the pad byte is not 0; gives that byte's position
+ *     6   a number slot is above 32,767 and neither 65,535 nor 65,534; gives its first byte's position
+ *     7   a string slot is no offset of a string in the table and neither 65,535 nor 65,534; gives its
+ *         first byte's position; or a string given to the writer is not in the bytes that were lent,
+ *         and then bits 0 to 47 are 0
  *     8   the buffer is shorter than the file to be written, or has too little room for the output
  *         of an expansion; bits 0 to 47 give the length of the file or output; or an array is too
  *         short for the edition's states, and bits 0 to 47 give their count
@@ -49,6 +51,8 @@
  *     20  the ninth use of a chain
  *
  * 12, once the number for use=, is given no more.
+ *
+ * In a merge's refusal of a file, 1 to 7, bits 48 to 55 give which file it was: 1 or 2.
  *
  * A refused call changes nothing that was lent to it.
  *
@@ -118,6 +122,20 @@ static inline unsigned terminfo_kind(uint64_t answer) { return (unsigned)(answer
  * gives: the output's length (8) or an item's place (14, 15, 16). */
 static inline uint64_t terminfo_value(uint64_t answer) { return answer & 0xFFFFFFFFFFFFu; }
 
+/* The position in the file of the first offending byte or slot, in the answer of terminfo_open,
+ * terminfo_list or terminfo_merge: refusals 4 to 7 of a file. It is never below 12; 0 in every other
+ * answer. */
+static inline size_t terminfo_position(uint64_t answer)
+{
+    unsigned refusal = terminfo_refusal(answer);
+    return refusal >= TERMINFO_REFUSED_NAMES && refusal <= TERMINFO_REFUSED_STRING
+               ? (size_t)terminfo_value(answer)
+               : 0;
+}
+
+/* Which of its two files terminfo_merge refuses, in its answer: 1 or 2; 0 where it refuses neither. */
+static inline unsigned terminfo_which(uint64_t answer) { return (unsigned)(answer >> 48) & 255u; }
+
 /* Where the part of the file starts that terminfo_names, terminfo_string or terminfo_state gives. */
 static inline size_t terminfo_start(uint64_t answer) { return (size_t)(answer >> 24) & 0xFFFFFFu; }
 
@@ -139,9 +157,10 @@ static inline size_t terminfo_steps(uint64_t answer) { return (size_t)(answer >>
  *     tables[7], [8], [9]       how many boolean, number and string slots lie beyond the edition.
  *
  * Success gives 0. Refusals, the first that applies: 3 (edition), 1 (below 12 bytes or above
- * 4,096), 2, 3 (header), 1 (size), 4, 5, 6, 7.
+ * 4,096), 2, 3 (header), 1 (size), 4, 5, 6, 7 (4 to 7 give the position of the first offending byte
+ * or slot: terminfo_position; the theorem is Positions of file_positions).
  *
- * Uses at most 176 bytes of stack. */
+ * Uses at most 168 bytes of stack. */
 uint64_t terminfo_open(const uint8_t *file, size_t file_length, size_t booleans, size_t numbers,
                        size_t strings, uint64_t tables[10]);
 
@@ -153,7 +172,7 @@ uint64_t terminfo_open(const uint8_t *file, size_t file_length, size_t booleans,
  * Success gives the start of the names times 2^24 plus their length without the closing NUL
  * (terminfo_start, terminfo_length). Refusal 17: terminfo_open refuses the file.
  *
- * Uses at most 144 bytes of stack. */
+ * Uses at most 136 bytes of stack. */
 uint64_t terminfo_names(const uint8_t *file, size_t file_length, size_t booleans, size_t numbers,
                         size_t strings);
 
@@ -167,7 +186,7 @@ uint64_t terminfo_names(const uint8_t *file, size_t file_length, size_t booleans
  * knows and the file does not have is absent. Refusal 17, with TERMINFO_REFUSED in bits 48 to 55:
  * the place is beyond the edition, or terminfo_open refuses the file.
  *
- * Uses at most 176 bytes of stack. */
+ * Uses at most 168 bytes of stack. */
 uint64_t terminfo_boolean(const uint8_t *file, size_t file_length, size_t booleans, size_t numbers,
                           size_t strings, size_t place);
 
@@ -179,7 +198,7 @@ uint64_t terminfo_boolean(const uint8_t *file, size_t file_length, size_t boolea
  * the number's value, 0 to 32,767, in the bits below (terminfo_value). Refusal 17: as for
  * terminfo_boolean.
  *
- * Uses at most 176 bytes of stack. */
+ * Uses at most 168 bytes of stack. */
 uint64_t terminfo_number(const uint8_t *file, size_t file_length, size_t booleans, size_t numbers,
                          size_t strings, size_t place);
 
@@ -191,7 +210,7 @@ uint64_t terminfo_number(const uint8_t *file, size_t file_length, size_t boolean
  * the bits below the start of the string in the file times 2^24 plus its length without the NUL
  * (terminfo_start, terminfo_length). Refusal 17: as for terminfo_boolean.
  *
- * Uses at most 176 bytes of stack. */
+ * Uses at most 168 bytes of stack. */
 uint64_t terminfo_string(const uint8_t *file, size_t file_length, size_t booleans, size_t numbers,
                          size_t strings, size_t place);
 
@@ -207,7 +226,7 @@ uint64_t terminfo_string(const uint8_t *file, size_t file_length, size_t boolean
  *
  * Success gives 0. Refusal 17: terminfo_open refuses the file.
  *
- * Uses at most 320 bytes of stack. */
+ * Uses at most 312 bytes of stack. */
 uint64_t terminfo_ask(const uint8_t *file, size_t file_length, size_t booleans, size_t numbers,
                       size_t strings, const uint8_t kinds[8], const size_t places[8],
                       uint64_t answers[8]);
@@ -231,7 +250,7 @@ uint64_t terminfo_ask(const uint8_t *file, size_t file_length, size_t booleans, 
  * 8 (an array is shorter than the edition counts, the booleans' first, then one of the numbers', then
  * one of the strings'; gives the count: terminfo_value).
  *
- * Uses at most 320 bytes of stack. */
+ * Uses at most 312 bytes of stack. */
 uint64_t terminfo_list(const uint8_t *file, size_t file_length, size_t booleans, size_t numbers,
                        size_t strings,
                        uint8_t *boolean_kinds, size_t boolean_kinds_length,
@@ -348,7 +367,8 @@ uint64_t terminfo_compile_first(const uint8_t *text, size_t text_length, size_t 
  *
  * Success gives the merged file's length (terminfo_value). Refusals, the first that applies: 3
  * (edition), 1 to 7 as terminfo_open gives them for the first file, 1 to 7 as it gives them for the
- * second file, 9, 8 (gives the merged file's length: terminfo_value).
+ * second file (both with which file it was: terminfo_which, terminfo_position), 9, 8 (gives the merged
+ * file's length: terminfo_value). The edition's 3, 9 and 8 name no file.
  *
  * Uses at most 10,064 bytes of stack. */
 uint64_t terminfo_merge(const uint8_t *first, size_t first_length, const uint8_t *second,
@@ -431,7 +451,7 @@ uint64_t terminfo_find(const uint8_t *name, size_t name_length, size_t booleans,
  * place; terminfo_find tells which of them. Refusals, the first that applies, with TERMINFO_REFUSED
  * in bits 48 to 55: 11 (the edition does not know the name), 17 (terminfo_open refuses the file).
  *
- * Uses at most 208 bytes of stack. */
+ * Uses at most 200 bytes of stack. */
 uint64_t terminfo_state(const uint8_t *file, size_t file_length, size_t booleans, size_t numbers,
                         size_t strings, const uint8_t *name, size_t name_length);
 

@@ -8,6 +8,7 @@ Beside each stands the answer that the model gives, in the same 64 bits.
 import ctypes
 import struct
 from array import array
+from functools import cached_property
 from pathlib import Path
 
 import model
@@ -127,8 +128,16 @@ def require(condition, what):
 
 
 def pack(number=0, value=0, kind=0):
-    """The 64 bits of an answer: a refusal's number and value, or a kind of state and its value."""
+    """The 64 bits of an answer: a refusal's number and value, or a kind of state and its value.
+
+    The refused file of a merge stands where a kind stands.
+    """
     return number << 56 | kind << 48 | value
+
+
+def pack_refusal(refusal):
+    """The 64 bits of a refusal that the model gives."""
+    return pack(refusal.number, refusal.value, refusal.which)
 
 
 def pack_part(part):
@@ -180,10 +189,23 @@ class Reader:
     def __init__(self, file, edition):
         self.file.put(file)
         self.lent = (self.file.address, self.file.length) + tuple(edition)
+        self.given = file, edition
+
+    @cached_property
+    def judged(self):
+        """By the model: the entry (None if refused) and the refusal (0 if accepted)."""
         try:
-            self.entry, self.refusal = model.open_entry(file, edition), 0
+            return model.open_entry(*self.given), 0
         except model.Refusal as refusal:
-            self.entry, self.refusal = None, pack(refusal.number, refusal.value)
+            return None, pack_refusal(refusal)
+
+    @property
+    def entry(self):
+        return self.judged[0]
+
+    @property
+    def refusal(self):
+        return self.judged[1]
 
     def file_kept(self):
         return self.file.kept()
@@ -272,7 +294,7 @@ class Reader:
         try:
             states = model.list_states(self.entry, rooms)
         except model.Refusal as refusal:
-            return pack(refusal.number, refusal.value), before
+            return pack_refusal(refusal), before
         return 0, [part + array[len(part):] for part, array in zip(states, before)]
 
 
@@ -322,7 +344,7 @@ def model_written(call, *arguments):
         file = call(*arguments)
         return len(file), file
     except model.Refusal as refusal:
-        return pack(refusal.number, refusal.value), None
+        return pack_refusal(refusal), None
 
 
 def write(edition, states, room):

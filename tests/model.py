@@ -50,12 +50,16 @@ BOOLEAN_BYTES = {ABSENT: 0, PRESENT: 1, CANCELLED: 254}
 
 
 class Refusal(Exception):
-    """A refusal with document 01's number and the value that it gives, 0 where it gives none."""
+    """A refusal with document 01's number and the value that it gives, 0 where it gives none.
 
-    def __init__(self, number, value=0):
-        super().__init__(number, value)
+    Which of merging's two files it is about is 1 or 2, and 0 where it names none.
+    """
+
+    def __init__(self, number, value=0, which=0):
+        super().__init__(number, value, which)
         self.number = number
         self.value = value
+        self.which = which
 
 
 class Entry(NamedTuple):
@@ -85,8 +89,14 @@ def pad(names_size, booleans):
     return (names_size + booleans) % 2
 
 
+def slots(file, start, count):
+    """The position and the short of each of so many slots from a start on."""
+    return zip(range(start, start + 2 * count, 2),
+               struct.unpack_from(f"<{count}H", file, start))
+
+
 def open_entry(file, edition):
-    """The entry that a file is in an edition."""
+    """The entry that a file is in an edition; refusals 4 to 7 give a position in the file."""
     check_edition(edition)
     if not HEADER_SIZE <= len(file) <= LARGEST_FILE:
         raise Refusal(1)
@@ -106,20 +116,24 @@ def open_entry(file, edition):
     if len(file) != table_start + table_size:
         raise Refusal(1)
 
-    if file[HEADER_SIZE:booleans_start].find(0) != names_size - 1:
-        raise Refusal(4)
-    if any(byte not in (0, 1, 254) for byte in file[booleans_start:pad_start]):
-        raise Refusal(5)
-    if any(file[pad_start:numbers_start]):
-        raise Refusal(5)
-    for slot in struct.unpack_from(f"<{numbers}H", file, numbers_start):
+    last = booleans_start - 1
+    nul = file.find(0, HEADER_SIZE, booleans_start)
+    if nul != last:
+        raise Refusal(4, last if nul < 0 else nul)
+    for position in range(booleans_start, pad_start):
+        if file[position] not in (0, 1, 254):
+            raise Refusal(5, position)
+    for position in range(pad_start, numbers_start):
+        if file[position] != 0:
+            raise Refusal(5, position)
+    for position, slot in slots(file, numbers_start, numbers):
         if slot > LARGEST_SHORT and slot not in (ABSENT_SLOT, CANCELLED_SLOT):
-            raise Refusal(6)
+            raise Refusal(6, position)
     table = file[table_start:]
-    for slot in struct.unpack_from(f"<{strings}H", file, slots_start):
+    for position, slot in slots(file, slots_start, strings):
         if slot not in (ABSENT_SLOT, CANCELLED_SLOT):
             if slot >= table_size or table.find(0, slot) < 0:
-                raise Refusal(7)
+                raise Refusal(7, position)
 
     starts = (booleans_start, numbers_start, slots_start, table_start)
     return Entry(file, edition, (booleans, numbers, strings), starts)
@@ -271,10 +285,19 @@ def content_state(entry, kind, place):
     return state_kind, value
 
 
+def open_of_two(which, file, edition):
+    """The entry that one of merging's two files is; a refusal says which file it was."""
+    try:
+        return open_entry(file, edition)
+    except Refusal as refusal:
+        raise Refusal(refusal.number, refusal.value, which) from None
+
+
 def merge(first, second, edition, room):
     """The file that the first file over the second gives in an edition, in some room."""
-    upper = open_entry(first, edition)
-    lower = open_entry(second, edition)
+    check_edition(edition)
+    upper = open_of_two(1, first, edition)
+    lower = open_of_two(2, second, edition)
     states = ([], [], [])
     for kind, known in enumerate(edition):
         for place in range(known):

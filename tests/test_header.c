@@ -118,6 +118,77 @@ static void merging(void) {
     assert(terminfo_refusal(answer) == 1);
 }
 
+/* An entry of two capabilities of each kind: names at 12, booleans at 15, the pad byte at 17,
+ * numbers at 18, string slots at 22, the string table at 26. */
+static const uint8_t sound[28] = {26, 1, 3, 0, 2, 0, 2, 0, 2, 0, 2, 0,
+                                  'a', 'b', 0, 0, 1, 0, 80, 0, 255, 255, 0, 0, 254, 255, 7, 0};
+
+/* Takes the entry with one byte changed. */
+static void damage(uint8_t file[28], size_t at, uint8_t byte) {
+    memcpy(file, sound, 28);
+    file[at] = byte;
+}
+
+/* Merges two files of that length in their edition. */
+static uint64_t merge(const uint8_t *first, const uint8_t *second) {
+    uint8_t merged[28];
+    return terminfo_merge(first, 28, second, 28, 2, 2, 2, merged, sizeof merged);
+}
+
+/* Whether an answer gives this refusal, and with it this position and this file of a merge. */
+static int says(uint64_t answer, unsigned refusal, size_t position, unsigned which) {
+    return terminfo_refusal(answer) == refusal && terminfo_position(answer) == position &&
+           terminfo_which(answer) == which;
+}
+
+/* Where a file is bad, and which of two files: 4 to 7 give the first offending byte or slot,
+ * merging says which file it was for 1 to 7. */
+static void positions(void) {
+    static const struct {
+        uint8_t at, byte, refusal, position;
+    } cases[] = {
+        {10, 3, TERMINFO_REFUSED_LENGTH, 0},
+        {0, 0, TERMINFO_REFUSED_MAGIC, 0},
+        {2, 1, TERMINFO_REFUSED_COUNTS, 0},
+        {13, 0, TERMINFO_REFUSED_NAMES, 13},
+        {14, 'c', TERMINFO_REFUSED_NAMES, 14},
+        {15, 255, TERMINFO_REFUSED_BOOLEAN, 15},
+        {16, 2, TERMINFO_REFUSED_BOOLEAN, 16},
+        {17, 1, TERMINFO_REFUSED_BOOLEAN, 17},
+        {19, 128, TERMINFO_REFUSED_NUMBER, 18},
+        {20, 253, TERMINFO_REFUSED_NUMBER, 20},
+        {22, 2, TERMINFO_REFUSED_STRING, 22},
+        {25, 0, TERMINFO_REFUSED_STRING, 24},
+        {27, 7, TERMINFO_REFUSED_STRING, 22},
+    };
+    uint8_t file[28], other[28], booleans[2], numbers[2], strings[2];
+    uint32_t values[2];
+    size_t starts[2], lengths[2];
+    uint64_t answer, tables[10];
+
+    damage(other, 12, 0);
+    for (size_t i = 0; i < sizeof cases / sizeof cases[0]; i++) {
+        unsigned refusal = cases[i].refusal;
+        size_t position = cases[i].position;
+
+        damage(file, cases[i].at, cases[i].byte);
+        answer = terminfo_open(file, 28, 2, 2, 2, tables);
+        assert(says(answer, refusal, position, 0));
+        assert(terminfo_open(file, 28, 0, 0, 0, tables) == answer);
+        assert(terminfo_list(file, 28, 2, 2, 2, booleans, 2, numbers, 2, values, 2, strings, 2,
+                             starts, 2, lengths, 2) == answer);
+        assert(says(merge(file, sound), refusal, position, 1));
+        assert(says(merge(sound, file), refusal, position, 2));
+        assert(says(merge(file, other), refusal, position, 1));
+        assert(says(merge(other, file), TERMINFO_REFUSED_NAMES, 12, 1));
+        assert(says(merge(file, file), refusal, position, 1));
+        answer = terminfo_names(file, 28, 2, 2, 2);
+        assert(says(answer, TERMINFO_REFUSED_PLACE, 0, 0) && terminfo_value(answer) == 0);
+        answer = terminfo_boolean(file, 28, 2, 2, 2, 0);
+        assert(terminfo_refusal(answer) == TERMINFO_REFUSED_PLACE && terminfo_value(answer) == 0);
+    }
+}
+
 /* Expands a string of C with the arguments 0, 0, -5 and six more. */
 static uint64_t expand(const char *string, int32_t lasting[26], uint8_t buffer[16], size_t at) {
     const int32_t arguments[9] = {0, 0, -5, 0, 0, 0, 0, 0, 0};
@@ -166,6 +237,29 @@ static uint64_t compile(const char *text, size_t booleans, size_t numbers, size_
                         uint8_t *buffer, size_t room) {
     return terminfo_compile_first((const uint8_t *)text, strlen(text), booleans, numbers, strings,
                                   buffer, room);
+}
+
+/* Answers that give no position and no file: the edition's 3, 9, 8, success, and other calls'. */
+static void no_positions(void) {
+    static uint8_t sharing[14 + 1000 + 10] = {26, 1, 2, 0, 0, 0, 0, 0, 244, 1, 10, 0, 'a', 0};
+    static uint8_t merged[4096];
+    uint8_t bad[28], file[32];
+    uint64_t answer, tables[10];
+
+    damage(bad, 12, 0);
+    assert(says(terminfo_open(bad, 28, 65, 2, 2, tables), TERMINFO_REFUSED_COUNTS, 0, 0));
+    answer = terminfo_merge(bad, 28, bad, 28, 2, 2, 513, merged, sizeof merged);
+    assert(says(answer, TERMINFO_REFUSED_COUNTS, 0, 0) && terminfo_value(answer) == 0);
+    memset(sharing + sizeof sharing - 10, 'x', 9); /* 500 slots of one string */
+    answer = terminfo_merge(sound, 28, sharing, sizeof sharing, 2, 2, 500, merged, sizeof merged);
+    assert(says(answer, TERMINFO_REFUSED_SIZE, 0, 0) && terminfo_value(answer) == 0);
+    answer = terminfo_merge(sound, 28, sound, 28, 2, 2, 2, merged, 27);
+    assert(says(answer, TERMINFO_REFUSED_ROOM, 0, 0) && terminfo_value(answer) == 28);
+    assert(says(merge(sound, sound), 0, 0, 0));
+    assert(says(terminfo_open(sound, 28, 2, 2, 2, tables), 0, 0, 0));
+    assert(says(one_number(file, "", TERMINFO_ABSENT, 0), TERMINFO_REFUSED_NAMES, 0, 0));
+    answer = compile("a|b,\n am, cols,\n", 64, 64, 512, merged, sizeof merged);
+    assert(says(answer, TERMINFO_REFUSED_UNKNOWN, 0, 0));
 }
 
 /* A text compiled and read back, and a field that is refused with its place. */
@@ -366,6 +460,8 @@ int main(void) {
     example();
     listing();
     merging();
+    positions();
+    no_positions();
     expanding();
     compiling();
     editions();

@@ -50,9 +50,17 @@ STATE_KINDS = ("absent", "present", "cancelled")
 NEEDED = [(call, kind) for call in STATE_CALLS for kind in STATE_KINDS]
 NEEDED += [(call, upper, "over", lower)
            for call in STATE_CALLS for upper in STATE_KINDS for lower in STATE_KINDS]
+MERGED_FILES = ("first file", "second file")
 NEEDED += [("merge refused by the", which, number)
-           for which in ("first file", "second file") for number in range(1, 8)]
+           for which in MERGED_FILES for number in range(1, 8)]
 NEEDED += [("merge refused by", what) for what in ("the edition", "both files, with two numbers")]
+# What stands at the positions that refusals 4 to 7 give.
+PLACES = ("a NUL among the names", "the last names byte", "a boolean", "the pad byte",
+          "a number slot", "a string slot", "a boolean beyond the edition",
+          "a number slot beyond the edition", "a string slot beyond the edition")
+NEEDED += [("open refused at", place) for place in PLACES]
+NEEDED += [("merge refused by the", which, "at", place)
+           for which in MERGED_FILES for place in PLACES]
 NEEDED += [("merged file of", size, "bytes") for size in (4095, 4096)]
 NEEDED += [("merged file", what) for what in (
     "with contents above 1,000 bytes", "with slots dropped", "of one file with itself",
@@ -375,6 +383,8 @@ def check_file(file, edition, counts):
     """Every call of the reader on one file in one edition."""
     reader = Reader(file, edition)
     refused, _ = same("open", reader.open(), reader.model_open(), file, edition)
+    if refused:
+        note_position(("open refused at",), refused, file, edition)
     same("names", reader.names(), reader.model_names(), file, edition)
     for kind, call in enumerate(STATE_CALLS):
         for _ in range(2):
@@ -396,6 +406,25 @@ def check_file(file, edition, counts):
         check_all(reader, file, edition)
     if not reader.file_kept():
         sys.exit("the file was changed: " + show(file))
+
+
+def note_position(words, answer, file, edition):
+    """Counts what stands at the position that the refusal of a file gives, after some words."""
+    number, position = answer >> 56, answer & (1 << 48) - 1
+    if number < 4:
+        return
+    _, (_, booleans, pad, numbers, slots, _) = counts_and_starts(file)
+    if number == 4:
+        place = "the last names byte" if position == booleans - 1 else "a NUL among the names"
+    elif number == 5 and position == pad:
+        place = "the pad byte"
+    else:
+        place, slot = {5: ("a boolean", position - booleans),
+                       6: ("a number slot", (position - numbers) // 2),
+                       7: ("a string slot", (position - slots) // 2)}[number]
+        if slot >= edition[number - 5]:
+            place += " beyond the edition"
+    seen[(*words, place)] += 1
 
 
 def check_ask(reader, file, edition, kinds, places):
@@ -711,9 +740,9 @@ def same_merge(first, second, edition, room):
 
 def check_merge(first, second, edition):
     """Merging with enough room, with room around what the file needs, and in a smaller edition."""
-    _, file = same_merge(first, second, edition, pick(4096, 4097, 8000))
+    answer, file = same_merge(first, second, edition, pick(4096, 4097, 8000))
     if file is None:
-        note_refused(first, second, edition)
+        note_refused(first, second, edition, answer)
         if chance() < 0.2:
             same_merge(first, second, edition, pick(0, 1, 12, 5000))
         return
@@ -725,17 +754,17 @@ def check_merge(first, second, edition):
     check_smaller(first, second, edition, file)
 
 
-def note_refused(first, second, edition):
-    """Counts which file makes merging be refused, if one does."""
-    numbers = [Reader(file, edition).refusal >> 56 for file in (first, second)]
-    if any(map(int.__gt__, edition, model.LARGEST_EDITION)):
+def note_refused(first, second, edition, answer):
+    """Counts which file makes merging be refused, if one does, and the position in it."""
+    number, which = answer >> 56, answer >> 48 & 255
+    if number == 3 and not which:
         seen["merge refused by", "the edition"] += 1
-    elif numbers[0]:
-        seen["merge refused by the", "first file", numbers[0]] += 1
-        if numbers[1] not in (0, numbers[0]):
-            seen["merge refused by", "both files, with two numbers"] += 1
-    elif numbers[1]:
-        seen["merge refused by the", "second file", numbers[1]] += 1
+    if which:
+        words = "merge refused by the", MERGED_FILES[which - 1]
+        seen[(*words, number)] += 1
+        note_position((*words, "at"), answer, (first, second)[which - 1], edition)
+    if which == 1 and Reader(second, edition).refusal >> 56 not in (0, number):
+        seen["merge refused by", "both files, with two numbers"] += 1
 
 
 def note_merged(first, second, edition, file):

@@ -8,6 +8,7 @@ import os
 import re
 import resource
 import shutil
+import struct
 import subprocess
 import sys
 import tempfile
@@ -44,9 +45,6 @@ FILE_SENTENCES = {
     2: "the first short is not 282, the mark of compiled entries",
     3: "a size in the header is out of range: names 2 to 128, others at most 32,767",
     4: "the names do not end in their only NUL",
-    5: "a boolean is none of 0, 1 and 254, or the pad byte is not 0",
-    6: "a number is above 32,767 and neither absent nor cancelled",
-    7: "a string's offset is outside the string table, or no NUL stands at or after it",
     9: "the merged file would be longer than 4,096 bytes",
 }
 TEXT_SENTENCES = {
@@ -386,12 +384,44 @@ def refused(found, name, number, sentence=None, byte=None):
 
 
 def judged(file):
-    """The number of the file's refusal, or 0; the edition has no part in it."""
+    """The number of the file's refusal, or 0, and its position; the edition has no part in it."""
     try:
         model.open_entry(file, SECOND_EDITION)
-        return 0
+        return 0, None
     except Refusal as refusal:
-        return refusal.number
+        return refusal.number, refusal.value or None
+
+
+def whose(kind, place, edition):
+    """How a slot is told: by the capability that the edition knows, or by its place."""
+    names = model.LISTS[kind][:edition[kind]]
+    return f"of {names[place]}" if place < len(names) else str(place)
+
+
+def file_sentence(file, number, byte, edition):
+    """What ti says of a refused file."""
+    if number < 5:
+        return FILE_SENTENCES[number]
+    names, booleans, numbers, strings, table = struct.unpack_from("<5H", file, 2)
+    if number == 5:
+        place = byte - 12 - names
+        if place == booleans:
+            return "the pad byte is not 0"
+        return f"boolean {whose(model.BOOLEAN, place, edition)} is none of 0, 1 and 254"
+    ahead = 12 + names + booleans + (names + booleans) % 2
+    if number == 6:
+        slot = f"number slot {whose(model.NUMBER, (byte - ahead) // 2, edition)}"
+        return slot + " is above 32,767 and neither absent nor cancelled"
+    slot = f"string slot {whose(model.STRING, (byte - ahead - 2 * numbers) // 2, edition)}"
+    if file[byte] + 256 * file[byte + 1] < table:
+        return slot + " is an offset with no NUL at or after it in the string table"
+    return slot + " is no offset into the string table"
+
+
+def refused_file(found, name, file, edition):
+    """A run that refuses a file of this name."""
+    number, byte = judged(file)
+    refused(found, name, number, file_sentence(file, number, byte, edition), byte)
 
 
 def shown(content, least):
@@ -434,13 +464,13 @@ def shown_file(file, edition=SECOND_EDITION):
 def check_file(file, given=None, edition=SECOND_EDITION):
     """ti check and ti show on a file in an edition, by its name or as standard input."""
     name = put("file", file) if given is None else given
-    number = judged(file)
+    number = judged(file)[0]
     checked = raw("check", *option(edition), name, given=file)
     showed = raw("show", *option(edition), name, given=file)
     if number:
         said = "standard input" if name == "-" else name
-        refused(checked, said, number)
-        refused(showed, said, number)
+        refused_file(checked, said, file, edition)
+        refused_file(showed, said, file, edition)
     else:
         same(checked, (0, f"accepted: {len(file)} bytes\n".encode(), ""), file)
         same(showed, (0, shown_file(file, edition).encode(), ""), file)
@@ -596,10 +626,10 @@ def check_merge(first, second, edition=SECOND_EDITION):
     put("merged", OLD)
     found = raw("merge", *option(edition), "first", "second", "merged")
     for name, file in (("first", first), ("second", second)):
-        if judged(file):
-            refused(found, name, judged(file))
+        if judged(file)[0]:
+            refused_file(found, name, file, edition)
             same((folder / "merged").read_bytes(), OLD, "merged")
-            return judged(file)
+            return judged(file)[0]
     try:
         merged = model.merge(first, second, edition, LARGEST_FILE)
     except Refusal as refusal:
@@ -609,6 +639,38 @@ def check_merge(first, second, edition=SECOND_EDITION):
     same(found, (0, f"merged: {len(merged)} bytes\n".encode(), ""), "merge")
     same((folder / "merged").read_bytes(), merged, "merged")
     return 0
+
+
+def check_faults():
+    """Where act4 is bad once bytes of it are changed, in words; by merge under the file's name."""
+    act, runs = act4.dumped(), 0
+    for changes, sentence, known in (
+            ({20: 0}, "the names do not end in their only NUL (refusal 4, byte 20)", 1),
+            ({43: 1}, "the names do not end in their only NUL (refusal 4, byte 43)", 1),
+            ({45: 2}, "boolean of am is none of 0, 1 and 254 (refusal 5, byte 45)", 1),
+            ({45: 2}, "boolean 1 is none of 0, 1 and 254 (refusal 5, byte 45)", 0),
+            ({65: 1}, "the pad byte is not 0 (refusal 5, byte 65)", 1),
+            ({67: 128}, "number slot of cols is above 32,767 and neither absent nor cancelled "
+             "(refusal 6, byte 66)", 1),
+            ({67: 128}, "number slot 0 is above 32,767 and neither absent nor cancelled "
+             "(refusal 6, byte 66)", 0),
+            ({102: 34}, "string slot of cup is no offset into the string table "
+             "(refusal 7, byte 102)", 1),
+            ({102: 34}, "string slot 10 is no offset into the string table "
+             "(refusal 7, byte 102)", 0),
+            ({102: 33, 103: 0, 391: 1}, "string slot of cup is an offset with no NUL at or after "
+             "it in the string table (refusal 7, byte 102)", 1)):
+        edition = FIRST_EDITION if known else (0, 0, 0)
+        bad = bytes(changes.get(i, byte) for i, byte in enumerate(act))
+        put("good", act)
+        put("bad", bad)
+        error = f"ti: bad: {sentence}\n"
+        for words in (["check", "bad"], ["show", "bad"], ["merge", "bad", "good", "out"],
+                      ["merge", "good", "bad", "out"], ["merge", "bad", "bad", "out"]):
+            found = raw(words[0], *option(edition), *words[1:])
+            same(found, (1, b"", error), words)
+            runs += 1
+    return runs
 
 
 def check_merges():
@@ -906,6 +968,6 @@ if __name__ == "__main__":
         counts = [check() for check in (
             check_help, check_examples, check_uses, check_wanted, check_names, check_terminal,
             check_failures, check_editions, check_generated, check_files, check_unnamed,
-            check_merges, check_expansions, check_bad_files, check_long_names,
+            check_faults, check_merges, check_expansions, check_bad_files, check_long_names,
             check_closed_streams, check_full_disk, check_no_rights)]
     print(f"{sum(counts)} runs of ti as stated, on the documents' examples and generated input")

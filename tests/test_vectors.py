@@ -27,6 +27,15 @@ def refusal(out):
     return pack(out["number"], *out["values"])
 
 
+def merge_refusal(out):
+    """As refusal, of merging: a file's refusal gives which file it was, then the position."""
+    number, values = out["number"], out["values"]
+    if number > 7 or not values:
+        return refusal(out)
+    which, *position = values
+    return pack(number, *position, kind=which)
+
+
 def same(found, expected, where):
     if found != expected:
         sys.exit(f"{where}: {found} instead of {expected}")
@@ -95,10 +104,10 @@ def run_state():
     return count
 
 
-def check_written(where, found, by_model, out):
+def check_written(where, found, by_model, out, refused=refusal):
     """Holds the answer and the file of a call that writes one to what a vector states."""
     if out["number"]:
-        expected = refusal(out), None
+        expected = refused(out), None
     else:
         file = bytes_of(out["outcome"])
         expected = len(file), file
@@ -127,7 +136,8 @@ def run_merge():
     for where, given, out in lines("merge"):
         arguments = (bytes_of(given["file_a"]), bytes_of(given["file_b"]), given["edition"],
                      given["room"])
-        check_written(where, library.merge(*arguments), library.model_merge(*arguments), out)
+        check_written(where, library.merge(*arguments), library.model_merge(*arguments), out,
+                      merge_refusal)
         count += 1
     return count
 

@@ -1,5 +1,5 @@
 -- For each enum of answers, the answer that says a thing: a left inverse of what answers say. It looks at a refusal's
--- number and first value only, so that it serves numbers for C too.
+-- number and first value only, in merging at two, so that it serves numbers for C too.
 -- Assumes nothing.
 use mathlib.Core.Path.{_≡_, refl}
 use mathlib.Core.List.{[], _∷_}
@@ -31,11 +31,13 @@ use Rattle.entry.specs.declared.Merged.{Merged}
 use Rattle.entry.specs.declared.Merged.the-variants as G
 use Rattle.entry.specs.State.{State, absent, cancelled, present}
 use Rattle.entry.specs.Asking.{Opening}
-use Rattle.entry.specs.Says.{fileNumber, saysJudged, saysOpened, saysNames, saysBoolean, saysNumber, saysString}
-use Rattle.entry.specs.Says.{saysWritten, saysMerged}
+use Rattle.entry.specs.Says.{fileNumber, filePosition, saysJudged, saysOpened, saysNames, saysBoolean, saysNumber}
+use Rattle.entry.specs.Says.{saysString, saysWritten, saysMerged}
 use Rattle.entry_numbers.specs.declared.BeyondEdition.{BeyondEdition}
 use Rattle.entry_numbers.specs.declared.BeyondEdition.the-variants as Y
-use Rattle.entry_numbers.specs.Entries.{saysBeyond}
+use Rattle.entry_numbers.specs.declared.EntryRefusal.{EntryRefusal}
+use Rattle.entry_numbers.specs.declared.EntryRefusal.the-variants as Q
+use Rattle.entry_numbers.specs.Entries.{saysBeyond, saysRefusal}
 use Rattle.names.specs.declared.Name.{Name}
 use Rattle.names.specs.declared.Name.the-variants as A
 use Rattle.names.specs.Naming.{saysName}
@@ -59,19 +61,19 @@ abbrev pub plain : {A : Type 0} → Answer A → Answer A
 plain (refused n v) = refused n (getD v 0 0 ∷ [])
 plain (gives x) = gives x
 
-abbrev pub file : ℕ → FileRefusal
-file n =
-    if eqb n 1 then R.Length else if eqb n 2 then R.Magic else if eqb n 3 then R.Counts else if eqb n 4 then R.Names
-    else if eqb n 5 then R.Boolean else if eqb n 6 then R.Number else R.Slot
+abbrev pub file : ℕ → ℕ → FileRefusal
+file n at =
+    if eqb n 1 then R.Length else if eqb n 2 then R.Magic else if eqb n 3 then R.Counts else if eqb n 4 then R.Names at
+    else if eqb n 5 then R.Boolean at else if eqb n 6 then R.Number at else R.Slot at
 
-pub file-back : (r : FileRefusal) → file (fileNumber r) ≡ r
+pub file-back : (r : FileRefusal) → file (fileNumber r) (filePosition r) ≡ r
 file-back R.Length = refl
 file-back R.Magic = refl
 file-back R.Counts = refl
-file-back R.Names = refl
-file-back R.Boolean = refl
-file-back R.Number = refl
-file-back R.Slot = refl
+file-back (R.Names at) = refl
+file-back (R.Boolean at) = refl
+file-back (R.Number at) = refl
+file-back (R.Slot at) = refl
 
 abbrev pub text : ℕ → TextRefusal
 text n =
@@ -88,7 +90,7 @@ text-back T.NinthUse = refl
 
 abbrev pub judged : Answer Sizes → Judged
 judged (gives s) = J.Accepted s
-judged (refused n v) = J.Refused (file n)
+judged (refused n v) = J.Refused (file n (getD v 0 0))
 
 pub judged-back : (r : Judged) → judged (plain (saysJudged r)) ≡ r
 judged-back (J.Accepted s) = refl
@@ -96,7 +98,7 @@ judged-back (J.Refused r) = rw (file-back r)
 
 abbrev pub opened : Answer Opening → Opened
 opened (gives o) = O.Entry (o .tables) (o .beyond)
-opened (refused n v) = O.Refused (file n)
+opened (refused n v) = O.Refused (file n (getD v 0 0))
 
 pub opened-back : (r : Opened) → opened (plain (saysOpened r)) ≡ r
 opened-back (O.Entry t b) = refl
@@ -154,6 +156,21 @@ pub beyond-back : (r : BeyondEdition) → beyond (plain (saysBeyond r)) ≡ r
 beyond-back (Y.Slots b) = refl
 beyond-back Y.Refused = refl
 
+abbrev pub refusal : Answer (Unit {0}) → EntryRefusal
+refusal (gives x) = Q.Accepted
+refusal (refused n v) = if eqb n 17 then Q.NotOpened else Q.File (file n (getD v 0 0))
+
+pub refusal-back : (r : EntryRefusal) → refusal (plain (saysRefusal r)) ≡ r
+refusal-back Q.Accepted = refl
+refusal-back (Q.File R.Length) = refl
+refusal-back (Q.File R.Magic) = refl
+refusal-back (Q.File R.Counts) = refl
+refusal-back (Q.File (R.Names at)) = refl
+refusal-back (Q.File (R.Boolean at)) = refl
+refusal-back (Q.File (R.Number at)) = refl
+refusal-back (Q.File (R.Slot at)) = refl
+refusal-back Q.NotOpened = refl
+
 abbrev pub written : Answer ℕ → Written
 written (gives n) = W.File n
 written (refused n v) =
@@ -169,19 +186,32 @@ written-back W.Limit = refl
 written-back W.Size = refl
 written-back (W.Room n) = refl
 
+-- which file, 0 for the edition, its refusal's number and position
+abbrev pub ofFile : ℕ → ℕ → ℕ → Merged
+ofFile k n at = if eqb k 0 then G.Edition else if eqb k 1 then G.First (file n at) else G.Second (file n at)
+
 abbrev pub merged : Answer ℕ → Merged
 merged (gives n) = G.File n
-merged (refused n v) = if eqb n 9 then G.Size else if eqb n 8 then G.Room (getD v 0 0) else G.Refused (file n)
+merged (refused n v) =
+    if eqb n 9 then G.Size else if eqb n 8 then G.Room (getD v 0 0) else ofFile (getD v 0 0) n (getD v 1 0)
 
-pub merged-back : (r : Merged) → merged (plain (saysMerged r)) ≡ r
+pub merged-back : (r : Merged) → merged (saysMerged r) ≡ r
 merged-back (G.File n) = refl
-merged-back (G.Refused R.Length) = refl
-merged-back (G.Refused R.Magic) = refl
-merged-back (G.Refused R.Counts) = refl
-merged-back (G.Refused R.Names) = refl
-merged-back (G.Refused R.Boolean) = refl
-merged-back (G.Refused R.Number) = refl
-merged-back (G.Refused R.Slot) = refl
+merged-back G.Edition = refl
+merged-back (G.First R.Length) = refl
+merged-back (G.First R.Magic) = refl
+merged-back (G.First R.Counts) = refl
+merged-back (G.First (R.Names at)) = refl
+merged-back (G.First (R.Boolean at)) = refl
+merged-back (G.First (R.Number at)) = refl
+merged-back (G.First (R.Slot at)) = refl
+merged-back (G.Second R.Length) = refl
+merged-back (G.Second R.Magic) = refl
+merged-back (G.Second R.Counts) = refl
+merged-back (G.Second (R.Names at)) = refl
+merged-back (G.Second (R.Boolean at)) = refl
+merged-back (G.Second (R.Number at)) = refl
+merged-back (G.Second (R.Slot at)) = refl
 merged-back G.Size = refl
 merged-back (G.Room n) = refl
 

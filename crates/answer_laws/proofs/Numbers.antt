@@ -1,13 +1,13 @@
 -- What a number for C tells: first of any answer whose values lie within their bits, then enum by enum.
 -- Assumes nothing.
-use mathlib.Core.Path.{_≡_, refl, sym, ap, _∙_}
+use mathlib.Core.Path.{_≡_, refl, sym, ap, subst, _∙_}
 use mathlib.Core.Bool.{Bool, true, false}
 use mathlib.Core.List.{List, [], _∷_}
 use Prim.Native.Nat.{ℕ, _+_, _*_, _<_, _≤_, _/_, _%_, _^_}
 use native.Mathlib.Omega.{arith}
-use lib.Dec.{eqb, ltb}
+use lib.Dec.{eqb, ltb, leb}
 use lib.ListN.{length, getD}
-use borrow.Author.Tests.{ltb-true}
+use borrow.Author.Tests.{ltb-true, le-leb, ne-eqb}
 use Rattle.base.specs.If.{if_then_else_}
 use Rattle.base.proofs.IfLaws.{true-false}
 use Rattle.base.specs.Answer.{Answer, refused, gives, isGiven, numberOf}
@@ -35,8 +35,8 @@ use Rattle.entry.specs.declared.Merged.{Merged}
 use Rattle.entry.specs.declared.Merged.the-variants as G
 use Rattle.entry.specs.State.{State, absent, cancelled, present}
 use Rattle.entry.specs.Limits.{fileMost}
-use Rattle.entry.specs.Says.{fileNumber, saysOpened, saysNames, saysBoolean, saysNumber, saysString}
-use Rattle.entry.specs.Says.{saysWritten, saysMerged}
+use Rattle.entry.specs.Says.{fileNumber, fileValues, filePosition, saysOpened, saysNames, saysBoolean, saysNumber}
+use Rattle.entry.specs.Says.{saysString, saysWritten, saysMerged}
 use Rattle.names.specs.declared.Name.{Name}
 use Rattle.names.specs.declared.Name.the-variants as A
 use Rattle.names.specs.Names.{ascii, parted, named, booleanNames, numberNames, stringNames, namesOf}
@@ -54,13 +54,14 @@ use Rattle.building_laws.specs.Values.{Bounded}
 use Rattle.expansion.specs.declared.Expansion.{Expansion}
 use Rattle.expansion.specs.declared.Expansion.the-variants as E
 use Rattle.expansion.specs.Expanding.{Counts, saysExpansion}
-use Rattle.c_numbers.specs.Numbers.{numbered, none, stateCode, kinded, partCode, kindCode, capabilityCode}
+use Rattle.c_numbers.specs.Numbers.{numbered, mergedNumber, none, stateCode, kinded, partCode, kindCode, capabilityCode}
 use Rattle.c_numbers.specs.Numbers.{openingArray, expansionNumber}
-use Rattle.c_numbers.specs.Numbers.{PartWithin, NamesWithin, StringWithin, WrittenWithin, MergedWithin}
+use Rattle.c_numbers.specs.Numbers.{PartWithin, NamesWithin, StringWithin, WrittenWithin, FileWithin, MergedWithin}
 use Rattle.c_numbers.specs.Numbers.{PlaceWithin, FoundWithin}
+use Rattle.c_numbers.proofs.Laws.{file-most}
 use Rattle.answer_laws.specs.Distinct.{Injective}
-use Rattle.answer_laws.specs.Numbers.{Any, NumberWithin, NameWithin, ExpansionWithin}
-use Rattle.answer_laws.specs.Numbers.{TopByte, Tells, KindByte, Numbers}
+use Rattle.answer_laws.specs.Numbers.{Any, NumberWithin, OpenedWithin, NameWithin, ExpansionWithin, whichOf}
+use Rattle.answer_laws.specs.Numbers.{TopByte, Tells, KindByte, FileByte, Numbers}
 use Rattle.answer_laws.proofs.Back as back
 use Rattle.answer_laws.proofs.Distinct.{distinct}
 
@@ -113,11 +114,11 @@ module _ {R A : Type 0} (says : R → Answer A) (Within : R → Type 0) (Ok : A 
   plain-same (gives x) (gives y) t h k e = ap gives (t x y h k e)
 
   telling : ((x y : A) → Ok x → Ok y → code x ≡ code y → x ≡ y)
-      → (b : Answer A → R) → ((r : R) → b (back.plain (says r)) ≡ r) → Tells says Within (numbered code)
+      → (b : Answer A → R) → ((r : R) → Within r → b (back.plain (says r)) ≡ r) → Tells says Within (numbered code)
   telling t b law = record {
     byte = top-byte;
     tells = λ r s v w e.
-        sym (law r) ∙ ap b (plain-same (says r) (says s) t (fits r v) (fits s w) e) ∙ law s;
+        sym (law r v) ∙ ap b (plain-same (says r) (says s) t (fits r v) (fits s w) e) ∙ law s w;
   }
 
 -- ---- codes of what is given
@@ -219,7 +220,7 @@ module _ {R A : Type 0} (says : R → Answer A) (Within : R → Type 0) (Ok : A 
     where
       as-marked : Tells (λ r. marked (says r)) Within (numbered code)
       as-marked =
-          telling (λ r. marked (says r)) Within Ok code fits (λ x h. omega (arith, below x h)) tell b law
+          telling (λ r. marked (says r)) Within Ok code fits (λ x h. omega (arith, below x h)) tell b (λ r _. law r)
 
 boolean-back : (r : BooleanState) → back.boolean (back.plain (marked (saysBoolean r))) ≡ r
 boolean-back B.Absent = refl
@@ -289,10 +290,10 @@ file-some : (r : FileRefusal) → 1 ≤ fileNumber r
 file-some R.Length = omega arith
 file-some R.Magic = omega arith
 file-some R.Counts = omega arith
-file-some R.Names = omega arith
-file-some R.Boolean = omega arith
-file-some R.Number = omega arith
-file-some R.Slot = omega arith
+file-some (R.Names at) = omega arith
+file-some (R.Boolean at) = omega arith
+file-some (R.Number at) = omega arith
+file-some (R.Slot at) = omega arith
 
 text-some : (r : TextRefusal) → 1 ≤ textNumber r
 text-some T.Malformed = omega arith
@@ -302,7 +303,7 @@ text-some T.NotFound = omega arith
 text-some T.Circular = omega arith
 text-some T.NinthUse = omega arith
 
-opened-fits : (r : Opened) → Any r → Fits Any (saysOpened r)
+opened-fits : (r : Opened) → OpenedWithin r → Fits Any (saysOpened r)
 opened-fits (O.Entry t b) h = tt
 opened-fits (O.Refused r) h = (file-some r, omega arith)
 
@@ -336,12 +337,6 @@ written-fits W.Lent h = omega arith
 written-fits W.Limit h = omega arith
 written-fits W.Size h = omega arith
 written-fits (W.Room n) h = omega arith
-
-merged-fits : (r : Merged) → MergedWithin r → Fits InFile (saysMerged r)
-merged-fits (G.File n) h = h
-merged-fits (G.Refused r) h = (file-some r, omega arith)
-merged-fits G.Size h = omega arith
-merged-fits (G.Room n) h = omega arith
 
 compiled-fits : (r : Compiled) → Bounded (saysCompiled r) → Fits InFile (saysCompiled r)
 compiled-fits (C.File n) h = h
@@ -456,16 +451,119 @@ expansion-tells = record {
     counted : Tells saysExpansion ExpansionWithin (numbered countsCode)
     counted =
         telling saysExpansion ExpansionWithin CountsOk countsCode expansion-fits (λ c h. omega arith) counts-tell
-        back.expansion back.expansion-back
+        back.expansion (λ r _. back.expansion-back r)
+
+-- ---- merging, whose refusals of a file have two values
+
+-- both as one, as the number has them
+abbrev folded : Answer ℕ → Answer ℕ
+folded (refused n v) = refused n ((if leb n 7 then getD v 0 0 * 2 ^ 48 + getD v 1 0 else getD v 0 0) ∷ [])
+folded (gives n) = gives n
+
+folded-number : (a : Answer ℕ) → mergedNumber (λ n. n) a ≡ numbered (λ n. n) (folded a)
+unfolding mergedNumber numbered
+folded-number (refused n v) = refl
+folded-number (gives n) = refl
+
+folded-same : (a : Answer ℕ) → numberOf (folded a) ≡ numberOf a
+folded-same (refused n v) = refl
+folded-same (gives n) = refl
+
+folded-given : (a : Answer ℕ) → isGiven (folded a) ≡ isGiven a
+folded-given (refused n v) = refl
+folded-given (gives n) = refl
+
+-- a file's refusal, folded
+file-folded : (k : ℕ) (r : FileRefusal)
+    → folded (refused (fileNumber r) (k ∷ fileValues r)) ≡ refused (fileNumber r) ((k * 2 ^ 48 + filePosition r) ∷ [])
+file-folded k r = rw (le-leb (fileNumber r) 7 (file-most r))
+
+merged-fits : (r : Merged) → MergedWithin r → Fits InFile (folded (saysMerged r))
+merged-fits (G.File n) h = h
+merged-fits G.Edition h = omega arith
+merged-fits (G.First r) h = subst (Fits InFile) (sym (file-folded 1 r)) (file-some r, omega arith)
+merged-fits (G.Second r) h = subst (Fits InFile) (sym (file-folded 2 r)) (file-some r, omega arith)
+merged-fits G.Size h = omega arith
+merged-fits (G.Room n) h = omega arith
+
+abbrev unfolded : Answer ℕ → Merged
+unfolded (gives n) = G.File n
+unfolded (refused n v) =
+    if eqb n 9 then G.Size else if eqb n 8 then G.Room (getD v 0 0)
+    else back.ofFile (getD v 0 0 / 2 ^ 48) n (getD v 0 0 % 2 ^ 48)
+
+file-unfolded : (k : ℕ) (r : FileRefusal) → FileWithin r
+    → unfolded (refused (fileNumber r) ((k * 2 ^ 48 + filePosition r) ∷ [])) ≡ back.ofFile k (fileNumber r) (filePosition r)
+file-unfolded k r h =
+    let m = file-most r in
+    let w : (k * 2 ^ 48 + filePosition r) / 2 ^ 48 ≡ k = omega arith in
+    let p : (k * 2 ^ 48 + filePosition r) % 2 ^ 48 ≡ filePosition r = omega arith in
+    rw (
+      ne-eqb (fileNumber r) 9 (λ q. let z : ⊥ = omega arith in z),
+      ne-eqb (fileNumber r) 8 (λ q. let z : ⊥ = omega arith in z),
+      w,
+      p,
+    )
+
+merged-back : (r : Merged) → MergedWithin r → unfolded (back.plain (folded (saysMerged r))) ≡ r
+merged-back (G.File n) h = refl
+merged-back G.Edition h = refl
+merged-back (G.First r) h =
+    ap (λ (a : Answer ℕ). unfolded (back.plain a)) (file-folded 1 r) ∙ file-unfolded 1 r h ∙ ap G.First (back.file-back r)
+merged-back (G.Second r) h =
+    ap (λ (a : Answer ℕ). unfolded (back.plain a)) (file-folded 2 r) ∙ file-unfolded 2 r h ∙ ap G.Second (back.file-back r)
+merged-back G.Size h = refl
+merged-back (G.Room n) h = refl
+
+merged-tells : Tells saysMerged MergedWithin (mergedNumber (λ n. n))
+merged-tells = record {
+  byte = record {
+    top = λ r w. rw (folded-number (saysMerged r)) (as-folded .byte .top r w ∙ folded-same (saysMerged r));
+    success = λ r w e.
+        omega (arith, folded-number (saysMerged r), as-folded .byte .success r w (folded-given (saysMerged r) ∙ e));
+    refusal = λ r w e.
+        omega (arith, folded-number (saysMerged r), as-folded .byte .refusal r w (folded-given (saysMerged r) ∙ e));
+  };
+  tells = λ r s v w e.
+      as-folded .tells r s v w (sym (folded-number (saysMerged r)) ∙ e ∙ folded-number (saysMerged s));
+}
+  where
+    as-folded : Tells (λ r. folded (saysMerged r)) MergedWithin (numbered (λ n. n))
+    as-folded =
+        telling (λ r. folded (saysMerged r)) MergedWithin InFile (λ n. n) merged-fits in-file-below
+        (λ x y h k e. e) unfolded merged-back
+
+-- a file's refusal as a number
+file-number : (k : ℕ) (r : FileRefusal)
+    → mergedNumber (λ n. n) (refused (fileNumber r) (k ∷ fileValues r))
+    ≡ fileNumber r * 2 ^ 56 + (k * 2 ^ 48 + filePosition r)
+unfolding mergedNumber
+file-number k r = rw (le-leb (fileNumber r) 7 (file-most r))
+
+file-byte : FileByte (mergedNumber (λ n. n))
+unfolding mergedNumber
+file-byte = record {
+  which = which;
+  first = λ r h. rw (file-number 1 r) (omega arith);
+  second = λ r h. rw (file-number 2 r) (omega arith);
+}
+  where
+    which : (r : Merged) → MergedWithin r → mergedNumber (λ n. n) (saysMerged r) / 2 ^ 48 % 256 ≡ whichOf r
+    which (G.File n) h = omega arith
+    which G.Edition h = refl
+    which (G.First r) h = rw (file-number 1 r) (omega arith)
+    which (G.Second r) h = rw (file-number 2 r) (omega arith)
+    which G.Size h = refl
+    which (G.Room n) h = omega arith
 
 -- ---- opening
 
-opened-tells : (r s : Opened) → isGiven (saysOpened r) ≡ false
+opened-tells : (r s : Opened) → OpenedWithin r → OpenedWithin s → isGiven (saysOpened r) ≡ false
     → numbered none (saysOpened r) ≡ numbered none (saysOpened s) → r ≡ s
 unfolding numbered
-opened-tells (O.Entry t b) s g e = true-false g
-opened-tells (O.Refused r) (O.Entry t b) g e = absurd (let z : ⊥ = omega (arith, file-some r) in z)
-opened-tells (O.Refused r) (O.Refused s) g e = ap O.Refused (distinct .file r s (omega arith))
+opened-tells (O.Entry t b) s h k g e = true-false g
+opened-tells (O.Refused r) (O.Entry t b) h k g e = absurd (let z : ⊥ = omega (arith, file-some r) in z)
+opened-tells (O.Refused r) (O.Refused s) h k g e = ap O.Refused (distinct .file r s (omega arith) (omega arith))
 
 array-tells : Injective openingArray
 array-tells o p e = λ i. record {
@@ -502,7 +600,7 @@ numbers =
     record {
       names =
           telling saysNames NamesWithin PartWithin partCode names-fits (λ p h. omega arith) part-tells
-          back.names back.names-back;
+          back.names (λ r _. back.names-back r);
       boolean =
           kinded-telling saysBoolean Any (StateOk Any) (stateCode none) boolean-fits booleans-below
           (state-tells Any none (λ x h. omega arith) (λ x y h k e. refl)) back.boolean boolean-back;
@@ -522,20 +620,19 @@ numbers =
       foundKind = kind-byte saysFound FoundWithin CapabilityOk capabilityCode found-fits capability-below;
       written =
           telling saysWritten WrittenWithin InFile (λ n. n) written-fits in-file-below (λ x y h k e. e)
-          back.written back.written-back;
-      merged =
-          telling saysMerged MergedWithin InFile (λ n. n) merged-fits in-file-below (λ x y h k e. e)
-          back.merged back.merged-back;
+          back.written (λ r _. back.written-back r);
+      merged = merged-tells;
+      mergedFile = file-byte;
       compiled =
           telling saysCompiled (λ r. Bounded (saysCompiled r)) InFile (λ n. n) compiled-fits in-file-below
-          (λ x y h k e. e) back.compiled back.compiled-back;
+          (λ x y h k e. e) back.compiled (λ r _. back.compiled-back r);
       name =
           telling saysName NameWithin (λ w. w < 2 ^ 56) (λ w. w) name-fits (λ w h. h) (λ x y h k e. e)
-          back.name back.name-back;
+          back.name (λ r _. back.name-back r);
       listed = names-below;
       expanded = expanded;
       expansion = expansion-tells;
-      opened = top-byte saysOpened Any Any none opened-fits (λ x h. omega arith);
+      opened = top-byte saysOpened OpenedWithin Any none opened-fits (λ x h. omega arith);
       array = array-tells;
       refusal = opened-tells;
     }

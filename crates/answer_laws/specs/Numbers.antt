@@ -1,6 +1,6 @@
 -- What a number for C tells (c_numbers/specs/Numbers.antt): its top byte is document 01's number, so that a success is
--- below 2 ^ 56 and a refusal isn't; the next byte of a state or a capability is its kind, 3 where it is refused; and
--- equal numbers come from equal answers.
+-- below 2 ^ 56 and a refusal isn't; the next byte of a state or a capability is its kind, 3 where it is refused;
+-- bits 48 to 55 of a merge's are the file that it refuses; and equal numbers come from equal answers.
 -- Statements only: proofs/Numbers.antt has the proof. Assumes nothing.
 use mathlib.Core.Path.{_≡_}
 use mathlib.Core.Bool.{true, false}
@@ -8,9 +8,14 @@ use Prim.Native.Nat.{ℕ, _<_, _≤_, _/_, _%_, _^_}
 use Rattle.base.specs.Answer.{Answer, isGiven, numberOf}
 use Rattle.edition.specs.declared.Kind.{Kind}
 use Rattle.edition.specs.declared.Place.{Place}
+use Rattle.entry.specs.declared.FileRefusal.{FileRefusal}
 use Rattle.entry.specs.declared.Opened.{Opened}
+use Rattle.entry.specs.declared.Opened.the-variants as O
+use Rattle.entry.specs.declared.Merged.{Merged}
+use Rattle.entry.specs.declared.Merged.the-variants as G
 use Rattle.entry.specs.declared.NumberState.{NumberState}
 use Rattle.entry.specs.declared.NumberState.the-variants as N
+use Rattle.entry.specs.Says.{filePosition}
 use Rattle.entry.specs.Says.{saysOpened, saysNames, saysBoolean, saysNumber, saysString, saysWritten, saysMerged}
 use Rattle.names.specs.declared.Name.{Name}
 use Rattle.names.specs.declared.Name.the-variants as A
@@ -21,9 +26,9 @@ use Rattle.building_laws.specs.Values.{Bounded}
 use Rattle.expansion.specs.declared.Expansion.{Expansion}
 use Rattle.expansion.specs.declared.Expansion.the-variants as E
 use Rattle.expansion.specs.Expanding.{saysExpansion}
-use Rattle.c_numbers.specs.Numbers.{numbered, none, partCode, booleanNumber, numberNumber, stringNumber, openingArray}
-use Rattle.c_numbers.specs.Numbers.{expansionNumber, capabilityNumber}
-use Rattle.c_numbers.specs.Numbers.{NamesWithin, StringWithin, WrittenWithin, MergedWithin, FoundWithin}
+use Rattle.c_numbers.specs.Numbers.{numbered, mergedNumber, none, partCode, booleanNumber, numberNumber, stringNumber}
+use Rattle.c_numbers.specs.Numbers.{openingArray, expansionNumber, capabilityNumber}
+use Rattle.c_numbers.specs.Numbers.{NamesWithin, StringWithin, WrittenWithin, FileWithin, MergedWithin, FoundWithin}
 use Rattle.answer_laws.specs.Distinct.{Injective}
 
 -- ---- bounds for answers whose contracts in c_numbers ask none
@@ -37,6 +42,11 @@ NumberWithin N.Absent = Unit {0}
 NumberWithin N.Cancelled = Unit {0}
 NumberWithin (N.Present n) = n < 2 ^ 32
 NumberWithin N.Refused = Unit {0}
+
+-- a refused file's position lies in it
+abbrev pub OpenedWithin : Opened → Type 0
+OpenedWithin (O.Entry t b) = Unit {0}
+OpenedWithin (O.Refused r) = FileWithin r
 
 -- a name of at most seven bytes, as all names of the three lists are (`listed`, below)
 abbrev pub NameWithin : Name → Type 0
@@ -70,6 +80,20 @@ pub record KindByte {R A : Type 0} (says : R → Answer A) (Within : R → Type 
   pub refused : (r : R) → Within r → isGiven (says r) ≡ false → number (says r) / 2 ^ 48 % 256 ≡ 3
   pub given : (r : R) → Within r → isGiven (says r) ≡ true → number (says r) / 2 ^ 48 % 256 ≤ 2
 
+-- which file a merge refuses, and the position in it
+abbrev pub whichOf : Merged → ℕ
+whichOf (G.File n) = 0
+whichOf G.Edition = 0
+whichOf (G.First r) = 1
+whichOf (G.Second r) = 2
+whichOf G.Size = 0
+whichOf (G.Room n) = 0
+
+pub record FileByte (number : Answer ℕ → ℕ) : Type 0 where
+  pub which : (r : Merged) → MergedWithin r → number (saysMerged r) / 2 ^ 48 % 256 ≡ whichOf r
+  pub first : (r : FileRefusal) → FileWithin r → number (saysMerged (G.First r)) % 2 ^ 48 ≡ filePosition r
+  pub second : (r : FileRefusal) → FileWithin r → number (saysMerged (G.Second r)) % 2 ^ 48 ≡ filePosition r
+
 pub record Numbers : Type 0 where
   pub names : Tells saysNames NamesWithin (numbered partCode)
   pub boolean : Tells saysBoolean Any booleanNumber
@@ -81,7 +105,8 @@ pub record Numbers : Type 0 where
   pub found : Tells saysFound FoundWithin capabilityNumber
   pub foundKind : KindByte saysFound FoundWithin capabilityNumber
   pub written : Tells saysWritten WrittenWithin (numbered (λ n. n))
-  pub merged : Tells saysMerged MergedWithin (numbered (λ n. n))
+  pub merged : Tells saysMerged MergedWithin (mergedNumber (λ n. n))
+  pub mergedFile : FileByte (mergedNumber (λ n. n))
   pub compiled : Tells saysCompiled (λ r. Bounded (saysCompiled r)) (numbered (λ n. n))
   pub name : Tells saysName NameWithin (numbered (λ w. w))
   pub listed : (k : Kind) (p : Place) → isGiven (naming k p) ≡ true → numbered (λ w. w) (naming k p) < 2 ^ 56
@@ -89,7 +114,7 @@ pub record Numbers : Type 0 where
   pub expanded : TopByte saysExpansion Any expansionNumber
   pub expansion : Tells saysExpansion ExpansionWithin expansionNumber
   -- opening answers 0 and fills an array, which tells what it gives; a refusal's number tells the refusal
-  pub opened : TopByte saysOpened Any (numbered none)
+  pub opened : TopByte saysOpened OpenedWithin (numbered none)
   pub array : Injective openingArray
-  pub refusal : (r s : Opened) → isGiven (saysOpened r) ≡ false
+  pub refusal : (r s : Opened) → OpenedWithin r → OpenedWithin s → isGiven (saysOpened r) ≡ false
       → numbered none (saysOpened r) ≡ numbered none (saysOpened s) → r ≡ s

@@ -1,7 +1,9 @@
 -- Each answer as one 64-bit number (include/terminfo_c.h says the same in words). Assumes nothing.
 use mathlib.Core.List.{List, [], _∷_}
 use Prim.Native.Nat.{ℕ, _+_, _*_, _%_, _^_, _≤_, _<_}
+use lib.Dec.{leb}
 use lib.ListN.{getD}
+use Rattle.base.specs.If.{if_then_else_}
 use Rattle.entry.specs.declared.Part.{Part}
 use Rattle.entry.specs.State.{State, absent, cancelled, present}
 use Rattle.entry.specs.declared.Names.{Names}
@@ -10,11 +12,13 @@ use Rattle.entry.specs.declared.StringState.{StringState}
 use Rattle.entry.specs.declared.StringState.the-variants as S
 use Rattle.entry.specs.declared.Written.{Written}
 use Rattle.entry.specs.declared.Written.the-variants as W
+use Rattle.entry.specs.declared.FileRefusal.{FileRefusal}
 use Rattle.entry.specs.declared.Merged.{Merged}
 use Rattle.entry.specs.declared.Merged.the-variants as G
 use Rattle.entry.specs.Limits.{fileMost}
 use Rattle.base.specs.Answer.{Answer, refused, gives}
 use Rattle.entry.specs.Asking.{Opening}
+use Rattle.entry.specs.Says.{filePosition}
 use Rattle.edition.specs.declared.Kind.{Kind}
 use Rattle.edition.specs.declared.Kind.the-variants as K
 use Rattle.edition.specs.declared.Place.{Place}
@@ -28,6 +32,12 @@ use Rattle.expansion.specs.Expanding.{Counts}
 unfoldable pub numbered : {A : Type 0} → (A → ℕ) → Answer A → ℕ
 numbered code (refused n v) = n * 2 ^ 56 + getD v 0 0
 numbered code (gives x) = code x
+
+-- merging: below a file's refusal, 1 to 7, which file in the byte below the top one, and the position below it
+unfoldable pub mergedNumber : {A : Type 0} → (A → ℕ) → Answer A → ℕ
+mergedNumber code (refused n v) =
+    n * 2 ^ 56 + (if leb n 7 then getD v 0 0 * 2 ^ 48 + getD v 1 0 else getD v 0 0)
+mergedNumber code (gives x) = code x
 
 -- a call that gives nothing in its number
 abbrev pub none : {A : Type 0} → A → ℕ
@@ -112,9 +122,15 @@ WrittenWithin W.Limit = Unit {0}
 WrittenWithin W.Size = Unit {0}
 WrittenWithin (W.Room n) = n ≤ fileMost
 
+-- a position lies in a file
+abbrev pub FileWithin : FileRefusal → Type 0
+FileWithin r = filePosition r < fileMost
+
 abbrev pub MergedWithin : Merged → Type 0
 MergedWithin (G.File n) = n ≤ fileMost
-MergedWithin (G.Refused r) = Unit {0}
+MergedWithin G.Edition = Unit {0}
+MergedWithin (G.First r) = FileWithin r
+MergedWithin (G.Second r) = FileWithin r
 MergedWithin G.Size = Unit {0}
 MergedWithin (G.Room n) = n ≤ fileMost
 

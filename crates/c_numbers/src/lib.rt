@@ -2,19 +2,22 @@
 // byte, 0 for success, and below it what the refusal or the call gives. Proved: each number is the one that
 // specs/Numbers.antt gives for what the answer says. Assumed: nothing.
 ghost use mathlib.Core.Path.{_≡_};
-ghost use Prim.Native.Nat.{_*_, _^_};
+ghost use Prim.Native.Nat.{_+_, _*_, _^_};
+ghost use Rattle.entry.specs.Says.{fileNumber, filePosition};
 ghost use Rattle.entry.specs.Says.{saysNames, saysBoolean, saysNumber, saysString, saysWritten, saysMerged};
 ghost use Rattle.names.specs.Finding.{saysFound};
 ghost use Rattle.names.specs.Naming.{saysName};
 ghost use Rattle.text.specs.Compiling.{saysCompiled};
 ghost use Rattle.building_laws.specs.Values.{Bounded};
 ghost use Rattle.expansion.specs.Expanding.{saysExpansion};
-ghost use Rattle.c_numbers.specs.Numbers.{numbered, partCode, refusedNumber};
+ghost use Rattle.c_numbers.specs.Numbers.{numbered, mergedNumber, partCode, refusedNumber};
 ghost use Rattle.c_numbers.specs.Numbers.{booleanNumber, numberNumber, stringNumber};
 ghost use Rattle.c_numbers.specs.Numbers.{openingArray, expansionNumber, capabilityNumber};
 ghost use Rattle.c_numbers.specs.Numbers.{NamesWithin, StringWithin, WrittenWithin, MergedWithin, FoundWithin};
+ghost use Rattle.c_numbers.specs.Numbers.{FileWithin};
 use entry::Beyond;
 use entry::BooleanState;
+use entry::FileRefusal;
 use entry::Merged;
 use entry::Names;
 use entry::NumberState;
@@ -127,14 +130,24 @@ pub fn written_number(w: Written) -> u64
     }
 }
 
+// A file's refusal, with its position.
+pub fn file_number(why: FileRefusal) -> u64
+    requires { ⌜ FileWithin why ⌝ }
+    ensures { λ r. ⌜ r ≡ fileNumber why * 2 ^ 56 + filePosition why ⌝ }
+{
+    top(refusal_numbers::of_file(why)) + refusal_numbers::position(why) as u64
+}
+
 pub fn merged_number(m: Merged) -> u64
     requires { ⌜ MergedWithin m ⌝ }
-    ensures { λ r. ⌜ r ≡ numbered (λ n. n) (saysMerged m) ⌝ }
+    ensures { λ r. ⌜ r ≡ mergedNumber (λ n. n) (saysMerged m) ⌝ }
 {
     let refusal = top(refusal_numbers::of_merged(m));
     match m {
         Merged::File(n) => n as u64,
-        Merged::Refused(_) => refusal,
+        Merged::Edition => refusal,
+        Merged::First(why) => file_number(why) + KIND,
+        Merged::Second(why) => file_number(why) + 2 * KIND,
         Merged::Size => refusal,
         Merged::Room(n) => refusal + n as u64,
     }

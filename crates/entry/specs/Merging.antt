@@ -1,7 +1,8 @@
--- Merging two compiled entries (document 01: Compiled entry; Numbers of refusal, order of merging).
+-- Merging two compiled entries (document 01: Compiled entry; Numbers of refusal, order of merging; document 02,
+-- 2026-05).
 -- Assumes nothing.
 use mathlib.Core.Bool.{not}
-use mathlib.Core.List.{List, []}
+use mathlib.Core.List.{List, [], _∷_}
 use Prim.Native.Nat.{ℕ}
 use Rattle.base.specs.If.{if_then_else_}
 use Rattle.base.specs.Tabulate.{tabulate}
@@ -9,7 +10,7 @@ use Rattle.edition.specs.declared.Edition.{Edition}
 use Rattle.edition.specs.declared.Place.{Place}
 use Rattle.edition.specs.Edition.{okEdition, place}
 use Rattle.entry.specs.State.{State, absent, cancelled, present}
-use Rattle.base.specs.Answer.{Answer, refused, andThen}
+use Rattle.base.specs.Answer.{Answer, refused, gives, andThen}
 use Rattle.entry.specs.Layout.{sizesOf}
 use Rattle.entry.specs.Reading.{Entry, bytesOf, reading, namesPart, booleanIn, numberIn, stringIn}
 use Rattle.entry.specs.Writing.{encode, fitting}
@@ -41,10 +42,16 @@ merged e a b =
       strings = tabulate (λ i. mergedString a b (place i)) (e .strings);
     }
 
--- "Merging: edition 3, first file, second file, 9, 8"; room is the buffer's length, and what is given is the file
+-- "for every refusal of a file, 1 to 3 included, which of its two files it was", before the position
+abbrev pub ofFile : {A : Type 0} → ℕ → Answer A → Answer A
+ofFile k (refused n v) = refused n (k ∷ v)
+ofFile k (gives x) = gives x
+
+-- "Merging: edition 3, first file, second file, 9, 8"; "the edition's 3 says neither", and neither do 9 and 8. Room is
+-- the buffer's length, and what is given is the file
 unfoldable pub merging : Edition → List ℕ → List ℕ → ℕ → Answer (List ℕ)
 merging e a b room =
     if not (okEdition e) then refused 3 []
-    else andThen (reading a)
-    (andThen (reading b)
+    else andThen (ofFile 1 (reading a))
+    (andThen (ofFile 2 (reading b))
     (fitting room (encode (merged e a b))))

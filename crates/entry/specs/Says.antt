@@ -1,8 +1,9 @@
 -- What each case of an answer says: document 01's number and values, or what is given. The contracts are stated
 -- through these, and no two answers of a call say the same, so that they determine the answer.
 -- Assumes nothing.
-use mathlib.Core.List.{[], _∷_}
+use mathlib.Core.List.{List, [], _∷_}
 use Prim.Native.Nat.{ℕ}
+use lib.ListN.{getD}
 use Rattle.entry.specs.declared.Sizes.{Sizes}
 use Rattle.entry.specs.declared.Part.{Part}
 use Rattle.entry.specs.declared.FileRefusal.{FileRefusal}
@@ -27,22 +28,36 @@ use Rattle.entry.specs.State.{State, absent, cancelled, present}
 use Rattle.base.specs.Answer.{Answer, refused, gives}
 use Rattle.entry.specs.Asking.{Opening}
 
+-- a file's refusal, and the position that it gives
 abbrev pub fileNumber : FileRefusal → ℕ
 fileNumber R.Length = 1
 fileNumber R.Magic = 2
 fileNumber R.Counts = 3
-fileNumber R.Names = 4
-fileNumber R.Boolean = 5
-fileNumber R.Number = 6
-fileNumber R.Slot = 7
+fileNumber (R.Names at) = 4
+fileNumber (R.Boolean at) = 5
+fileNumber (R.Number at) = 6
+fileNumber (R.Slot at) = 7
+
+abbrev pub fileValues : FileRefusal → List ℕ
+fileValues R.Length = []
+fileValues R.Magic = []
+fileValues R.Counts = []
+fileValues (R.Names at) = at ∷ []
+fileValues (R.Boolean at) = at ∷ []
+fileValues (R.Number at) = at ∷ []
+fileValues (R.Slot at) = at ∷ []
+
+-- 0 where it gives none
+abbrev pub filePosition : FileRefusal → ℕ
+filePosition r = getD (fileValues r) 0 0
 
 abbrev pub saysJudged : Judged → Answer Sizes
 saysJudged (J.Accepted s) = gives s
-saysJudged (J.Refused r) = refused (fileNumber r) []
+saysJudged (J.Refused r) = refused (fileNumber r) (fileValues r)
 
 abbrev pub saysOpened : Opened → Answer Opening
 saysOpened (O.Entry t b) = gives (record { tables = t; beyond = b })
-saysOpened (O.Refused r) = refused (fileNumber r) []
+saysOpened (O.Refused r) = refused (fileNumber r) (fileValues r)
 
 abbrev pub saysNames : Names → Answer Part
 saysNames (M.At p) = gives p
@@ -79,6 +94,8 @@ saysWritten (W.Room n) = refused 8 (n ∷ [])
 -- what is given is the file's length
 abbrev pub saysMerged : Merged → Answer ℕ
 saysMerged (G.File n) = gives n
-saysMerged (G.Refused r) = refused (fileNumber r) []
+saysMerged G.Edition = refused 3 []
+saysMerged (G.First r) = refused (fileNumber r) (1 ∷ fileValues r)
+saysMerged (G.Second r) = refused (fileNumber r) (2 ∷ fileValues r)
 saysMerged G.Size = refused 9 []
 saysMerged (G.Room n) = refused 8 (n ∷ [])

@@ -88,23 +88,23 @@ pub struct Part {
     pub length: usize,
 }
 
-// Why a file is refused: document 01's numbers 1 to 7.
+// Why a file is refused: document 01's numbers 1 to 7; 4 to 7 with the position in the file of the first offending
+// byte or slot.
 pub enum FileRefusal {
     // 1: wrong length
     Length,
     // 2: magic not 282
     Magic,
-    // 3: a header short above 32,767, or a names size outside 2 to 128; of opening and merging, also an edition that
-    // is too large
+    // 3: a header short above 32,767, or a names size outside 2 to 128; of opening, also an edition that is too large
     Counts,
     // 4: names
-    Names,
+    Names(usize),
     // 5: boolean or pad byte
-    Boolean,
+    Boolean(usize),
     // 6: number slot
-    Number,
+    Number(usize),
     // 7: string slot
-    Slot,
+    Slot(usize),
 }
 
 // What judging a file answers, whatever the edition.
@@ -176,8 +176,12 @@ pub enum Written {
 pub enum Merged {
     // the file's length
     File(usize),
-    // 3: the edition is too large; 1 to 7: why the first file is refused, else the second
-    Refused(FileRefusal),
+    // 3: the edition is too large
+    Edition,
+    // 1 to 7 of the first file, giving 1 and then the position
+    First(FileRefusal),
+    // 1 to 7 of the second file, giving 2 and then the position
+    Second(FileRefusal),
     // 9: the file would be longer than 4,096 bytes
     Size,
     // 8: the buffer is too short; the file's length

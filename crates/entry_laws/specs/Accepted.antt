@@ -1,15 +1,15 @@
--- What acceptance says of a file.
+-- What reading comes to, line by line, and what acceptance says of a file.
 -- Assumes nothing.
-use mathlib.Core.Path.{_≡_, refl, sym, _∙_}
+use mathlib.Core.Path.{_≡_, refl, sym, ap, _∙_}
 use mathlib.Core.Bool.{Bool, true, false, _&&_, not}
-use mathlib.Core.List.{List, []}
+use mathlib.Core.List.{List, [], _∷_}
 use Prim.Native.Nat.{ℕ, _+_, _-_, _≤_, _<_}
 use native.Mathlib.Omega.{arith}
 use lib.Dec.{eqb, ltb, leb}
 use lib.ListN.{length, length-take, length-drop}
-use borrow.Author.Tests.{ltb-true, leb-true, eqb-true, eq-eqb, le-leb}
+use borrow.Author.Tests.{ltb-true, leb-true, eqb-true, eq-eqb, le-leb, not-true, not-false}
 use Rattle.base.specs.If.{if_then_else_}
-use Rattle.base.proofs.IfLaws.{and-left, and-right}
+use Rattle.base.proofs.IfLaws.{and-left, and-right, if-both, true-false}
 use Rattle.base.proofs.ScanLaws.{scan-ge}
 use Rattle.word.specs.Word.{word}
 use Rattle.word.specs.Nul.{NoNul, notNulAt, nulFrom}
@@ -19,13 +19,22 @@ use Rattle.entry.specs.declared.Offset.{Offset}
 use Rattle.entry.specs.Limits.{magic, headerSize, fileMost, namesLeast, namesMost, givenNamesMost, numberWidth}
 use Rattle.entry.specs.Limits.{offsetWidth, shortWidth}
 use Rattle.entry.specs.State.{State, absent, cancelled, present, mapState, half}
-use Rattle.base.specs.Answer.{Answer, refused, gives}
+use Rattle.base.specs.Answer.{Answer, refused, gives, isGiven}
 use Rattle.entry.specs.Layout.{sizesOf, booleansAt, numbersAt, stringsAt, tableAt, sizeOf}
 use Rattle.entry.specs.Reading.{bytesOf, offset, okCounts, okNames, okBooleans, okPad, okNumbers, okOffset, okStrings}
+use Rattle.entry.specs.Reading.{badNames, badBoolean, badNumber, badString}
 use Rattle.entry.specs.Reading.{reading, namesPart, slotIn, numberIn, offsetIn, contentAt, partIn, stringIn}
 use Rattle.entry_laws.specs.Sound.{NumberFits, ContentFree}
 use Rattle.entry_laws.specs.Nul.{before-nul-free}
 use Rattle.entry_laws.specs.Slots.{Passes, slots-pass}
+
+-- the header passes
+pub record Header (f : List ℕ) : Type 0 where
+  pub least : headerSize ≤ length f
+  pub most : length f ≤ fileMost
+  pub magical : word shortWidth f 0 ≡ magic
+  pub counts : okCounts (sizesOf f) ≡ true
+  pub size : length f ≡ sizeOf (sizesOf f)
 
 pub record Accepted (f : List ℕ) : Type 0 where
   pub least : headerSize ≤ length f
@@ -39,6 +48,55 @@ pub record Accepted (f : List ℕ) : Type 0 where
   pub numbers : okNumbers f (sizesOf f) ≡ true
   pub strings : okStrings f (sizesOf f) ≡ true
 
+-- a property, for each line of `reading` by what is known there
+pub record Lines (f : List ℕ) (P : Answer Sizes → Type 0) : Type 0 where
+  pub on1 : P (refused 1 [])
+  pub on2 : P (refused 2 [])
+  pub on3 : P (refused 3 [])
+  pub on4 : Header f → okNames f (sizesOf f) ≡ false → P (refused 4 (badNames f (sizesOf f) ∷ []))
+  pub on5 : Header f → (okBooleans f (sizesOf f) && okPad f (sizesOf f)) ≡ false
+      → P (refused 5 (badBoolean f (sizesOf f) ∷ []))
+  pub on6 : Header f → okNumbers f (sizesOf f) ≡ false → P (refused 6 (badNumber f (sizesOf f) ∷ []))
+  pub on7 : Header f → okStrings f (sizesOf f) ≡ false → P (refused 7 (badString f (sizesOf f) ∷ []))
+  pub accepted : Accepted f → P (gives (sizesOf f))
+
+-- what holds on every line holds of what reading answers
+pub reading-lines : (f : List ℕ) (P : Answer Sizes → Type 0) → Lines f P → P (reading f)
+unfolding reading
+reading-lines f P l =
+    let s : Sizes = sizesOf f in
+    let lengths : Bool = leb headerSize (length f) && leb (length f) fileMost in
+    let booleans : Bool = okBooleans f s && okPad f s in
+    if-both P (not lengths) (λ _. l .on1) (λ h₁.
+    if-both P (not (eqb (word shortWidth f 0) magic)) (λ _. l .on2) (λ h₂.
+    if-both P (not (okCounts s)) (λ _. l .on3) (λ h₃.
+    if-both P (not (eqb (length f) (sizeOf s))) (λ _. l .on1) (λ h₄.
+    let fits = not-false lengths h₁ in
+    let header : Header f
+    = record {
+      least = leb-true _ _ (and-left (leb headerSize (length f)) _ fits);
+      most = leb-true _ _ (and-right (leb headerSize (length f)) _ fits);
+      magical = eqb-true _ _ (not-false _ h₂);
+      counts = not-false _ h₃;
+      size = eqb-true _ _ (not-false _ h₄);
+    } in
+    if-both P (not (okNames f s)) (λ t. l .on4 header (not-true _ t)) (λ h₅.
+    if-both P (not booleans) (λ t. l .on5 header (not-true _ t)) (λ h₆.
+    if-both P (not (okNumbers f s)) (λ t. l .on6 header (not-true _ t)) (λ h₇.
+    if-both P (not (okStrings f s)) (λ t. l .on7 header (not-true _ t)) (λ h₈.
+    l .accepted (record {
+      least = header .least;
+      most = header .most;
+      magical = header .magical;
+      counts = header .counts;
+      size = header .size;
+      names = not-false _ h₅;
+      booleans = and-left (okBooleans f s) _ (not-false booleans h₆);
+      pad = and-right (okBooleans f s) _ (not-false booleans h₆);
+      numbers = not-false _ h₇;
+      strings = not-false _ h₈;
+    })))))))))
+
 -- an answer that is given passed the test that would have refused it
 pub test-passed : {A : Type 0} (t : Bool) (n : ℕ) (v : List ℕ) (a : Answer A) (x : A)
     → (if not t then refused n v else a) ≡ gives x → (t ≡ true) × (a ≡ gives x)
@@ -46,38 +104,17 @@ test-passed true n v a x e = (refl, e)
 test-passed false n v a x e = absurd (let z : _≡_ {A = ℕ} 0 1 = cc in (let y : ⊥ = omega arith in y))
 
 pub accepted-facts : (f : List ℕ) (s : Sizes) → reading f ≡ gives s → Accepted f
-unfolding reading
-accepted-facts f s e =
-    let z : Sizes = sizesOf f in
-    let lengths : Bool = leb headerSize (length f) && leb (length f) fileMost in
-    let tables : Bool = okBooleans f z && okPad f z in
-    let a₈ : Answer Sizes = if not (okStrings f z) then refused 7 [] else gives z in
-    let a₇ : Answer Sizes = if not (okNumbers f z) then refused 6 [] else a₈ in
-    let a₆ : Answer Sizes = if not tables then refused 5 [] else a₇ in
-    let a₅ : Answer Sizes = if not (okNames f z) then refused 4 [] else a₆ in
-    let a₄ : Answer Sizes = if not (eqb (length f) (sizeOf z)) then refused 1 [] else a₅ in
-    let a₃ : Answer Sizes = if not (okCounts z) then refused 3 [] else a₄ in
-    let a₂ : Answer Sizes = if not (eqb (word shortWidth f 0) magic) then refused 2 [] else a₃ in
-    let p₁ = test-passed lengths 1 [] a₂ s e in
-    let p₂ = test-passed (eqb (word shortWidth f 0) magic) 2 [] a₃ s (p₁ .1) in
-    let p₃ = test-passed (okCounts z) 3 [] a₄ s (p₂ .1) in
-    let p₄ = test-passed (eqb (length f) (sizeOf z)) 1 [] a₅ s (p₃ .1) in
-    let p₅ = test-passed (okNames f z) 4 [] a₆ s (p₄ .1) in
-    let p₆ = test-passed tables 5 [] a₇ s (p₅ .1) in
-    let p₇ = test-passed (okNumbers f z) 6 [] a₈ s (p₆ .1) in
-    let p₈ = test-passed (okStrings f z) 7 [] (gives z) s (p₇ .1) in
-    record {
-      least = leb-true _ _ (and-left (leb headerSize (length f)) _ (p₁ .0));
-      most = leb-true _ _ (and-right (leb headerSize (length f)) _ (p₁ .0));
-      magical = eqb-true _ _ (p₂ .0);
-      counts = p₃ .0;
-      size = eqb-true _ _ (p₄ .0);
-      names = p₅ .0;
-      booleans = and-left (okBooleans f z) _ (p₆ .0);
-      pad = and-right (okBooleans f z) _ (p₆ .0);
-      numbers = p₇ .0;
-      strings = p₈ .0;
-    }
+accepted-facts f s =
+    reading-lines f (λ a. a ≡ gives s → Accepted f) (record {
+      on1 = λ e. true-false (sym (ap isGiven e));
+      on2 = λ e. true-false (sym (ap isGiven e));
+      on3 = λ e. true-false (sym (ap isGiven e));
+      on4 = λ _ _ e. true-false (sym (ap isGiven e));
+      on5 = λ _ _ e. true-false (sym (ap isGiven e));
+      on6 = λ _ _ e. true-false (sym (ap isGiven e));
+      on7 = λ _ _ e. true-false (sym (ap isGiven e));
+      accepted = λ k _. k;
+    })
 
 pub reading-accepted : (f : List ℕ) → Accepted f → reading f ≡ gives (sizesOf f)
 unfolding reading

@@ -21,7 +21,7 @@ use Rattle.base.specs.Answer.{Answer, refused, gives, andThen, isGiven}
 use Rattle.entry.specs.Layout.{sizesOf}
 use Rattle.entry.specs.Reading.{reading, editionOf}
 use Rattle.entry.specs.Writing.{stringTable, sizesFor, encode}
-use Rattle.entry.specs.Merging.{over, mergedBoolean, mergedNumber, mergedString, merged}
+use Rattle.entry.specs.Merging.{over, mergedBoolean, mergedNumber, mergedString, merged, ofFile}
 use Rattle.entry_laws.specs.Sound.{Sound, NumberFits, ContentFree}
 use Rattle.entry_laws.specs.Parts.{length-encode}
 use Rattle.entry_laws.specs.Accepted.{Accepted, accepted-facts, string-free, number-fits, names-least}
@@ -47,6 +47,10 @@ andThen-gives (gives s) b x e = (refl, e)
 pub given-andThen : {A B : Type 0} (a : Answer A) (b : Answer B) → isGiven a ≡ true → andThen a b ≡ b
 given-andThen (refused n v) b g = true-false (sym g)
 given-andThen (gives s) b g = refl
+
+pub of-file-given : {A : Type 0} (k : ℕ) (a : Answer A) → isGiven (ofFile k a) ≡ isGiven a
+of-file-given k (refused n v) = refl
+of-file-given k (gives x) = refl
 
 pub given-accepted : (f : List ℕ) → isGiven (reading f) ≡ true → Accepted f
 given-accepted f g = by-answer (reading f) refl g

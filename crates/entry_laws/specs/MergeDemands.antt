@@ -2,7 +2,7 @@
 -- accepted files: shared or overlapping strings, unreached table bytes, contents above 1,000 bytes, more slots than
 -- the edition or fewer are all covered.
 -- Assumes nothing.
-use mathlib.Core.Path.{_≡_, refl, ap, _∙_}
+use mathlib.Core.Path.{_≡_, refl, sym, ap, _∙_}
 use mathlib.Core.Bool.{Bool, true, false, not}
 use mathlib.Core.List.{List, [], _∷_}
 use mathlib.Core.Logic.{_⊎_, inl, inr}
@@ -19,12 +19,13 @@ use Rattle.entry.specs.State.{absent}
 use Rattle.base.specs.Answer.{Answer, refused, gives, andThen, isGiven, numberOf}
 use Rattle.entry.specs.Reading.{reading}
 use Rattle.entry.specs.Writing.{encode}
-use Rattle.entry.specs.Merging.{mergedBoolean, mergedNumber, mergedString, merged, merging}
+use Rattle.entry.specs.Merging.{mergedBoolean, mergedNumber, mergedString, merged, ofFile}
+use Rattle.entry.specs.Merging.{merging}
 use Rattle.entry_laws.specs.Sound.{WrittenIn}
 use Rattle.entry_laws.specs.Accepted.{test-passed}
 use Rattle.entry_laws.specs.Demands.{ReadsAsWritten, reads-as-written}
-use Rattle.entry_laws.specs.Merge.{andThen-gives, given-andThen, given-accepted, merged-edition, merged-sound}
-use Rattle.entry_laws.specs.Merge.{edition-no-more, same-below, merged-size}
+use Rattle.entry_laws.specs.Merge.{andThen-gives, given-andThen, given-accepted, of-file-given, merged-edition}
+use Rattle.entry_laws.specs.Merge.{merged-sound, edition-no-more, same-below, merged-size}
 
 -- demand 2: what a merge must meet, room apart
 pub record MergeMeets (e : Edition) (a b : List ℕ) : Type 0 where
@@ -42,8 +43,8 @@ unfolding merging
 by-room e a b room m =
     rw (
       m .edition,
-      given-andThen (reading a) _ (m .first),
-      given-andThen (reading b) _ (m .second),
+      given-andThen (ofFile 1 (reading a)) _ (of-file-given 1 (reading a) ∙ m .first),
+      given-andThen (ofFile 2 (reading b)) _ (of-file-given 2 (reading b) ∙ m .second),
       le-leb (length (encode (merged e a b))) fileMost (m .size),
     )
 
@@ -59,12 +60,18 @@ merged-only-if e a b room f w =
     let n : ℕ = length (encode (merged e a b)) in
     let a₅ : Answer (List ℕ) = if not (leb n room) then refused 8 (n ∷ []) else gives (encode (merged e a b)) in
     let a₄ : Answer (List ℕ) = if not (leb n fileMost) then refused 9 [] else a₅ in
-    let p₁ = test-passed (okEdition e) 3 [] (andThen (reading a) (andThen (reading b) a₄)) f w in
-    let p₂ = andThen-gives (reading a) (andThen (reading b) a₄) f (p₁ .1) in
-    let p₃ = andThen-gives (reading b) a₄ f (p₂ .1) in
+    let a₃ : Answer (List ℕ) = andThen (ofFile 2 (reading b)) a₄ in
+    let p₁ = test-passed (okEdition e) 3 [] (andThen (ofFile 1 (reading a)) a₃) f w in
+    let p₂ = andThen-gives (ofFile 1 (reading a)) a₃ f (p₁ .1) in
+    let p₃ = andThen-gives (ofFile 2 (reading b)) a₄ f (p₂ .1) in
     let p₄ = test-passed (leb n fileMost) 9 [] a₅ f (p₃ .1) in
     let p₅ = test-passed (leb n room) 8 (n ∷ []) (gives (encode (merged e a b))) f (p₄ .1) in (
-      record { edition = p₁ .0; first = p₂ .0; second = p₃ .0; size = leb-true _ _ (p₄ .0) },
+      record {
+        edition = p₁ .0;
+        first = sym (of-file-given 1 (reading a)) ∙ p₂ .0;
+        second = sym (of-file-given 2 (reading b)) ∙ p₃ .0;
+        size = leb-true _ _ (p₄ .0);
+      },
       (leb-true _ _ (p₅ .0), (cc (p₅ .1))),
     )
 

@@ -1,35 +1,39 @@
 -- Laws of entries that hold their file.
 -- Assumes nothing.
-use mathlib.Core.Path.{_≡_, refl, sym, ap, _∙_}
+use mathlib.Core.Path.{_≡_, refl, sym, ap, subst, _∙_}
 use mathlib.Core.Bool.{Bool, true, false, _&&_, _||_, not}
-use mathlib.Core.List.{List, []}
+use mathlib.Core.List.{List, [], _∷_}
 use Prim.Native.Nat.{ℕ}
-use lib.Dec.{eqb, leb}
-use lib.ListN.{length}
+use native.Mathlib.Omega.{arith}
+use lib.Dec.{eqb}
+use lib.ListN.{getD}
 use borrow.Author.Tests.{eqb-true, eqb-false}
 use Rattle.base.specs.If.{if_then_else_}
-use Rattle.base.proofs.IfLaws.{true-false, and-left, and-right, or-left, or-right, if-true, if-false, eqb-refl}
-use Rattle.word.specs.Word.{word}
+use Rattle.base.proofs.IfLaws.{true-false, and-left, and-right, or-left, or-right, if-true, if-false}
+use Rattle.base.proofs.IfLaws.{if-both, eqb-refl}
 use Rattle.edition.specs.declared.Edition.{Edition}
 use Rattle.edition.specs.declared.Place.{Place}
 use Rattle.edition.specs.Edition.{okEdition, knows}
 use Rattle.entry.specs.declared.Sizes.{Sizes}
-use Rattle.entry.specs.Limits.{magic, headerSize, fileMost, shortWidth}
 use Rattle.entry.specs.declared.Tables.{Tables}
 use Rattle.entry.specs.declared.Beyond.{Beyond}
-use Rattle.base.specs.Answer.{Answer, refused, gives, mapAnswer, isGiven, numberOf}
-use Rattle.entry.specs.Layout.{sizesOf, sizeOf, beyondOf}
-use Rattle.entry.specs.Reading.{okCounts, okNames, okBooleans, okPad, okNumbers, okStrings, reading, namesPart, booleanIn, numberIn, partIn}
+use Rattle.base.specs.Answer.{Answer, refused, gives, mapAnswer, isGiven}
+use Rattle.entry.specs.Layout.{sizesOf, beyondOf}
+use Rattle.entry.specs.Reading.{reading, namesPart, booleanIn, numberIn, partIn}
 use Rattle.entry.specs.Asking.{Opening, openingOf, opening, asking, askingNames, askingBoolean, askingNumber, askingString}
+use Rattle.entry_laws.specs.Accepted.{reading-lines}
+use Rattle.file_positions.specs.Positions.{Values}
+use Rattle.file_positions.proofs.Positions.{positions}
 use Rattle.entry_numbers.specs.declared.EntryNumbers.{EntryNumbers}
-use Rattle.entry_numbers.specs.Entries.{numbersOf, opened, sameEdition, sameTables, sameBeyond, same, fromOpening, entryRefusal, asked, entryNames, entryBoolean, entryNumber, entryString, entryBeyond}
+use Rattle.entry_numbers.specs.Entries.{numbersOf, opened, sameEdition, sameTables, sameBeyond, same, fromOpening, refusalOf, entryRefusal, asked, entryNames, entryBoolean, entryNumber, entryString, entryBeyond}
 
 -- ---- comparing
 
 pub compared : (a b : EntryNumbers) (x y z : Bool) → x ≡ sameEdition (a .edition) (b .edition) → y ≡ sameTables (a .tables) (b .tables) → z ≡ sameBeyond (a .beyond) (b .beyond)
-    → (x && (y && (z && eqb (a .refusal) (b .refusal)))) ≡ same a b
+    → (x && (y && (z && (eqb (a .refusal) (b .refusal) && eqb (a .position) (b .position))))) ≡ same a b
 unfolding same
-compared a b x y z p q r = λ i. p i && (q i && (r i && eqb (a .refusal) (b .refusal)))
+compared a b x y z p q r =
+    λ i. p i && (q i && (r i && (eqb (a .refusal) (b .refusal) && eqb (a .position) (b .position))))
 
 pub same-refl : (n : EntryNumbers) → same n n ≡ true
 unfolding same sameEdition sameTables sameBeyond
@@ -76,8 +80,9 @@ same-is a b h =
     let p = edition-is (a .edition) (b .edition) (and-left (sameEdition (a .edition) (b .edition)) _ h) in
     let q = tables-are (a .tables) (b .tables) (and-left (sameTables (a .tables) (b .tables)) _ after-edition) in
     let r = beyond-is (a .beyond) (b .beyond) (and-left (sameBeyond (a .beyond) (b .beyond)) _ after-tables) in
-    let x = eqb-true (a .refusal) (b .refusal) (and-right (sameBeyond (a .beyond) (b .beyond)) _ after-tables) in
-    λ i. record { edition = p i; tables = q i; beyond = r i; refusal = x i }
+    let x = eqb-and (a .refusal) (b .refusal) _ (and-right (sameBeyond (a .beyond) (b .beyond)) _ after-tables) in
+    let y = eqb-true (a .position) (b .position) (x .1) in
+    λ i. record { edition = p i; tables = q i; beyond = r i; refusal = x .0 i; position = y i }
 
 -- ---- asking an entry
 
@@ -103,6 +108,20 @@ module _ (f : List ℕ) (n : EntryNumbers) (o : Answer Opening) (m : EntryNumber
   unfolding asked
   asked-same x y h e = e ∙ if-true (same n (opened (n .edition) f)) x (refused 17 []) (sym test ∙ h)
 
+  -- what opening said, where it gives these numbers; else compared with those of an edition that was too large
+  pub refusal-own : (x : Answer (Unit {0})) → x ≡ refusalOf o → t ≡ true → x ≡ entryRefusal f n
+  unfolding entryRefusal
+  refusal-own x e h = rw (sym test ∙ h, ← p) e
+
+  module _ (u : Bool) (s : u ≡ same n (numbersOf (n .edition) (refused 3 []))) (h : t ≡ false) where
+    pub refusal-large : u ≡ true → refused 3 [] ≡ entryRefusal f n
+    unfolding entryRefusal
+    refusal-large k = rw (← test, h, ← s, k)
+
+    pub refusal-other : u ≡ false → refused 17 [] ≡ entryRefusal f n
+    unfolding entryRefusal
+    refusal-other k = rw (← test, h, ← s, k)
+
 -- ---- an entry that opening gave
 
 -- a refusal's number is not 0
@@ -110,55 +129,28 @@ abbrev Numbered : {A : Type 0} → Answer A → Type 0
 Numbered (refused n v) = n ≡ 0 → ⊥
 Numbered (gives x) = Unit {0}
 
-numbered-or : {A : Type 0} (t : Bool) (n : ℕ) (y : Answer A) → eqb n 0 ≡ false → Numbered y → Numbered (if t then refused n [] else y)
-numbered-or true n y h b = eqb-false n 0 h
-numbered-or false n y h b = b
-
 numbered-map : {A B : Type 0} (g : A → B) (x : Answer A) → Numbered x → Numbered (mapAnswer g x)
 numbered-map g (refused n v) h = h
 numbered-map g (gives x) h = tt
 
-module _ (f : List ℕ) where
-  abbrev s : Sizes
-  s = sizesOf f
-
-  -- the last tests of reading
-  abbrev from-7 : Answer Sizes
-  from-7 = if not (okStrings f s) then refused 7 [] else gives s
-
-  abbrev from-6 : Answer Sizes
-  from-6 = if not (okNumbers f s) then refused 6 [] else from-7
-
-  abbrev from-5 : Answer Sizes
-  from-5 = if not (okBooleans f s && okPad f s) then refused 5 [] else from-6
-
-  abbrev from-4 : Answer Sizes
-  from-4 = if not (okNames f s) then refused 4 [] else from-5
-
-  abbrev from-size : Answer Sizes
-  from-size = if not (eqb (length f) (sizeOf s)) then refused 1 [] else from-4
-
-  abbrev from-3 : Answer Sizes
-  from-3 = if not (okCounts s) then refused 3 [] else from-size
-
-  abbrev from-2 : Answer Sizes
-  from-2 = if not (eqb (word shortWidth f 0) magic) then refused 2 [] else from-3
-
-  reading-numbered : Numbered (reading f)
-  unfolding reading
-  reading-numbered =
-      numbered-or (not (leb headerSize (length f) && leb (length f) fileMost)) 1 from-2 refl
-      (numbered-or (not (eqb (word shortWidth f 0) magic)) 2 from-3 refl
-      (numbered-or (not (okCounts s)) 3 from-size refl
-      (numbered-or (not (eqb (length f) (sizeOf s))) 1 from-4 refl
-      (numbered-or (not (okNames f s)) 4 from-5 refl
-      (numbered-or (not (okBooleans f s && okPad f s)) 5 from-6 refl
-      (numbered-or (not (okNumbers f s)) 6 from-7 refl
-      (numbered-or (not (okStrings f s)) 7 (gives s) refl tt)))))))
+reading-numbered : (f : List ℕ) → Numbered (reading f)
+reading-numbered f =
+    reading-lines f Numbered (record {
+      on1 = eqb-false 1 0 refl;
+      on2 = eqb-false 2 0 refl;
+      on3 = eqb-false 3 0 refl;
+      on4 = λ _ _. eqb-false 4 0 refl;
+      on5 = λ _ _. eqb-false 5 0 refl;
+      on6 = λ _ _. eqb-false 6 0 refl;
+      on7 = λ _ _. eqb-false 7 0 refl;
+      accepted = λ _. tt;
+    })
 
 opening-numbered : (e : Edition) (f : List ℕ) → Numbered (opening e f)
 unfolding opening
-opening-numbered e f = numbered-or (not (okEdition e)) 3 (mapAnswer (openingOf e) (reading f)) refl (numbered-map (openingOf e) (reading f) (reading-numbered f))
+opening-numbered e f =
+    if-both Numbered (not (okEdition e)) (λ _. eqb-false 3 0 refl)
+    (λ _. numbered-map (openingOf e) (reading f) (reading-numbered f))
 
 module _ {A : Type 0} (e : Edition) (f : List ℕ) (known : Edition → Bool) (x : Edition → A) where
   unopened : (E : Edition) (n : ℕ) (v : List ℕ) → refused n v ≡ opening E f → refused 17 [] ≡ asking E f (known E) (x E)
@@ -209,21 +201,6 @@ opened-beyond e f = opened-asked e f (λ E. true) (λ E. beyondOf E (sizesOf f))
 
 -- ---- which numbers opening gives
 
--- the numbers compared with those that opening gives, and with those of an edition that was too large
-module _ (f : List ℕ) (n m : EntryNumbers) (t u : Bool) (q : m ≡ opened (n .edition) f) (r : t ≡ same n m) (s : u ≡ same n (numbersOf (n .edition) (refused 3 []))) where
-  tests : (t || u) ≡ fromOpening f n
-  unfolding fromOpening
-  tests = λ i. (r ∙ ap (same n) q) i || s i
-
-  pub refusal-own : t ≡ true → n .refusal ≡ entryRefusal f n
-  refusal-own h = if-true (fromOpening f n) (n .refusal) 17 (sym tests ∙ or-left t u h)
-
-  pub refusal-large : u ≡ true → n .refusal ≡ entryRefusal f n
-  refusal-large h = if-true (fromOpening f n) (n .refusal) 17 (sym tests ∙ or-right t u h)
-
-  pub refusal-other : t ≡ false → u ≡ false → 17 ≡ entryRefusal f n
-  refusal-other h k = if-false (fromOpening f n) (n .refusal) 17 (sym tests ∙ (λ i. h i || k i))
-
 from-own : (f : List ℕ) (n : EntryNumbers) → n ≡ opened (n .edition) f → fromOpening f n ≡ true
 unfolding fromOpening
 from-own f n h = or-left (same n (opened (n .edition) f)) _ (ap (same n) (sym h) ∙ same-refl n)
@@ -243,7 +220,9 @@ module _ (e : Edition) (f : List ℕ) (k : ℕ) (v : List ℕ) where
   from-refused true q = from-read (reading f) refl q
   from-refused false q =
       let three : k ≡ 3 = cc in
-      or-right (same N (opened (N .edition) f)) _ (ap (λ (j : ℕ). same N (numbersOf e (refused j []))) (sym three) ∙ same-refl N)
+      let none : v ≡ [] = cc in
+      or-right (same N (opened (N .edition) f)) _
+      ((λ i. same N (numbersOf e (refused (sym three i) (sym none i)))) ∙ same-refl N)
 
 -- what opening gives passes the test
 pub from-opening : (e : Edition) (f : List ℕ) → fromOpening f (opened e f) ≡ true
@@ -263,10 +242,59 @@ opening-gives f n h = by-test (same n (opened (n .edition) f)) refl h
     by-test true q r = (n .edition, same-is n (opened (n .edition) f) q)
     by-test false q r = (record { booleans = 65; numbers = 0; strings = 0 }, same-is n (numbersOf (n .edition) (refused 3 [])) r)
 
--- of an entry that opening gave, the refusal's number is opening's
-pub opened-refusal : (e : Edition) (f : List ℕ) → entryRefusal f (opened e f) ≡ numberOf (opening e f)
-opened-refusal e f = sym (if-true (fromOpening f (opened e f)) (opened e f .refusal) 17 (from-opening e f)) ∙ by-answer (opening e f)
+-- a refusal's number and position determine what it gives
+values-same : (f : List ℕ) (n : ℕ) (v w : List ℕ) → Values f n v → Values f n w → getD v 0 0 ≡ getD w 0 0 → v ≡ w
+values-same f n v w (Values.none a p) (Values.none b q) e = p ∙ sym q
+values-same f n v w (Values.none a p) (Values.position i b c q k) e = absurd (let z : ⊥ = omega arith in z)
+values-same f n v w (Values.position i a c p k) (Values.none b q) e = absurd (let z : ⊥ = omega arith in z)
+values-same f n v w (Values.position i a c p k) (Values.position j b d q l) e =
+    let z : i ≡ j = sym (ap (λ (x : List ℕ). getD x 0 0) p) ∙ e ∙ ap (λ (x : List ℕ). getD x 0 0) q in
+    p ∙ ap (λ (x : ℕ). x ∷ []) z ∙ sym q
+
+module _ (e : Edition) (f : List ℕ) (k : ℕ) (v : List ℕ) (q : opening e f ≡ refused k v) where
+  -- the numbers of the refusal
+  abbrev M : EntryNumbers
+  M = numbersOf e (refused k v)
+
+  -- opening the file in their own edition, where that gives the same
+  again : (b : Answer Opening) → opening (M .edition) f ≡ b → M ≡ numbersOf (M .edition) b
+      → refusalOf b ≡ refused k v
+  again (refused j w) r h =
+      let z : k ≡ j = ap (λ (m : EntryNumbers). m .refusal) h in
+      let p : Values f k w = subst (λ (i : ℕ). Values f i w) (sym z) (positions .opens (M .edition) f j w r) in
+      let x : v ≡ w = values-same f k v w (positions .opens e f k v q) p (ap (λ (m : EntryNumbers). m .position) h) in
+      λ i. refused (sym z i) (sym x i)
+  again (gives o) r h = absurd (rw q at (opening-numbered e f) (ap (λ (m : EntryNumbers). m .refusal) h))
+
+  -- the edition's
+  large : M ≡ numbersOf (M .edition) (refused 3 []) → _≡_ {A = Answer (Unit {0})} (refused 3 []) (refused k v)
+  large h =
+      let z : k ≡ 3 = ap (λ (m : EntryNumbers). m .refusal) h in
+      λ i. refused (sym z i) (sym (none (positions .opens e f k v q) z) i)
+    where
+      none : Values f k v → k ≡ 3 → v ≡ []
+      none (Values.none l p) z = p
+      none (Values.position i a b p t) z = absurd (let y : ⊥ = omega arith in y)
+
+  refused-again : entryRefusal f M ≡ refused k v
+  unfolding entryRefusal fromOpening
+  refused-again =
+      by-tests (same M (opened (M .edition) f)) (same M (numbersOf (M .edition) (refused 3 []))) refl refl
+      (rw q at (from-opening e f))
+    where
+      by-tests : (t u : Bool) → same M (opened (M .edition) f) ≡ t
+          → same M (numbersOf (M .edition) (refused 3 [])) ≡ u → (t || u) ≡ true
+          → (if t then refusalOf (opening (M .edition) f) else if u then refused 3 [] else refused 17 [])
+          ≡ refused k v
+      by-tests true u h g o = again (opening (M .edition) f) refl (same-is M (opened (M .edition) f) h)
+      by-tests false true h g o = large (same-is M (numbersOf (M .edition) (refused 3 [])) g)
+      by-tests false false h g o = true-false (sym o)
+
+-- an entry that opening gave says what opening said
+pub opened-refusal : (e : Edition) (f : List ℕ) → entryRefusal f (opened e f) ≡ refusalOf (opening e f)
+unfolding entryRefusal
+opened-refusal e f = by-answer (opening e f) refl
   where
-    by-answer : (a : Answer Opening) → numbersOf e a .refusal ≡ numberOf a
-    by-answer (refused k v) = refl
-    by-answer (gives o) = refl
+    by-answer : (a : Answer Opening) → opening e f ≡ a → entryRefusal f (numbersOf e a) ≡ refusalOf a
+    by-answer (gives o) q = rw (q, same-refl (numbersOf e (gives o)))
+    by-answer (refused k v) q = refused-again e f k v q

@@ -5,6 +5,7 @@ use mathlib.Core.Bool.{Bool, true, _&&_, _||_}
 use mathlib.Core.List.{List, []}
 use Prim.Native.Nat.{ℕ}
 use lib.Dec.{eqb}
+use lib.ListN.{getD}
 use Rattle.base.specs.If.{if_then_else_}
 use Rattle.edition.specs.declared.Edition.{Edition}
 use Rattle.edition.specs.declared.Place.{Place}
@@ -16,10 +17,14 @@ use Rattle.base.specs.Answer.{Answer, refused, gives}
 use Rattle.entry.specs.Layout.{sizesOf, beyondOf}
 use Rattle.entry.specs.Asking.{Opening, opening, asking, askingNames, askingBoolean, askingNumber, askingString}
 use Rattle.entry_numbers.specs.declared.EntryNumbers.{EntryNumbers}
+use Rattle.entry.specs.Says.{fileNumber, fileValues}
+use Rattle.entry_numbers.specs.declared.EntryRefusal.{EntryRefusal}
+use Rattle.entry_numbers.specs.declared.EntryRefusal.the-variants as E
 use Rattle.entry_numbers.specs.declared.BeyondEdition.{BeyondEdition}
 use Rattle.entry_numbers.specs.declared.BeyondEdition.the-variants as B
 
--- what opening answers, as an entry's numbers: on a refusal all are 0 but the refusal's own
+-- what opening answers, as an entry's numbers: on a refusal all are 0 but the refusal's own and its position, which is
+-- 0 where it gives none
 abbrev pub numbersOf : Edition → Answer Opening → EntryNumbers
 numbersOf e (refused n v) =
     record {
@@ -36,8 +41,9 @@ numbersOf e (refused n v) =
           };
       beyond = record { booleans = 0; numbers = 0; strings = 0 };
       refusal = n;
+      position = getD v 0 0;
     }
-numbersOf e (gives o) = record { edition = e; tables = o .tables; beyond = o .beyond; refusal = 0 }
+numbersOf e (gives o) = record { edition = e; tables = o .tables; beyond = o .beyond; refusal = 0; position = 0 }
 
 -- the numbers that opening gives for a file's bytes
 abbrev pub opened : Edition → List ℕ → EntryNumbers
@@ -60,7 +66,7 @@ sameBeyond a b = eqb (a .booleans) (b .booleans) && (eqb (a .numbers) (b .number
 unfoldable pub same : EntryNumbers → EntryNumbers → Bool
 same a b =
     sameEdition (a .edition) (b .edition) && (sameTables (a .tables) (b .tables)
-    && (sameBeyond (a .beyond) (b .beyond) && eqb (a .refusal) (b .refusal)))
+    && (sameBeyond (a .beyond) (b .beyond) && (eqb (a .refusal) (b .refusal) && eqb (a .position) (b .position))))
 
 -- ---- asking an entry of file f and numbers n
 
@@ -69,9 +75,22 @@ same a b =
 unfoldable pub fromOpening : List ℕ → EntryNumbers → Bool
 fromOpening f n = same n (opened (n .edition) f) || same n (numbersOf (n .edition) (refused 3 []))
 
--- the number under which opening refused, 0 where it did not; 17, "entry not from opening"
-abbrev pub entryRefusal : List ℕ → EntryNumbers → ℕ
-entryRefusal f n = if fromOpening f n then n .refusal else 17
+-- an answer, but for what it gives
+abbrev pub refusalOf : {A : Type 0} → Answer A → Answer (Unit {0})
+refusalOf (refused n v) = refused n v
+refusalOf (gives x) = gives tt
+
+-- what opening said of the file; 17, "entry not from opening"
+unfoldable pub entryRefusal : List ℕ → EntryNumbers → Answer (Unit {0})
+entryRefusal f n =
+    if same n (opened (n .edition) f) then refusalOf (opening (n .edition) f)
+    else if same n (numbersOf (n .edition) (refused 3 [])) then refused 3 []
+    else refused 17 []
+
+abbrev pub saysRefusal : EntryRefusal → Answer (Unit {0})
+saysRefusal E.Accepted = gives tt
+saysRefusal (E.File r) = refused (fileNumber r) (fileValues r)
+saysRefusal E.NotOpened = refused 17 []
 
 -- "If callers can make an entry without opening, one that opening wouldn't give for its bytes is answered 17 too"
 unfoldable pub asked : {A : Type 0} → List ℕ → EntryNumbers → Answer A → Answer A

@@ -9,11 +9,12 @@ ghost use Rattle.entry.specs.Says.{saysNames, saysBoolean, saysNumber, saysStri
 ghost use Rattle.states.specs.Held.{IsPart};
 ghost use Rattle.entry_numbers.specs.Entries.{entryRefusal, entryNames, entryBoolean, entryNumber, entryString};
 ghost use Rattle.entry_numbers.specs.Entries.{entryBeyond, saysBeyond, numbersOf, opened, sameEdition};
-ghost use Rattle.entry_numbers.specs.Entries.{sameTables, sameBeyond, same};
+ghost use Rattle.entry_numbers.specs.Entries.{sameTables, sameBeyond, same, refusalOf, saysRefusal};
 use edition::Edition;
 use edition::Place;
 use entry::Beyond;
 use entry::BooleanState;
+use entry::FileRefusal;
 use entry::Names;
 use entry::NumberState;
 use entry::Opened;
@@ -22,12 +23,22 @@ use entry::StringState;
 use entry::Tables;
 
 // What opening gave: the edition, the tables, the slots beyond the edition. On a refusal all are 0 but the refusal's
-// number, which is 0 otherwise.
+// number and, for 4 to 7, its position, which are 0 otherwise.
 pub struct EntryNumbers {
     edition: Edition,
     tables: Tables,
     beyond: Beyond,
     refusal: usize,
+    position: usize,
+}
+
+// What opening said of an entry's file.
+pub enum EntryRefusal {
+    Accepted,
+    // 1 to 7, 4 to 7 with the position
+    File(FileRefusal),
+    // 17: opening would not give the entry
+    NotOpened,
 }
 
 // How many slots lie beyond the edition.
@@ -64,6 +75,7 @@ const EDITION_REFUSED: EntryNumbers = EntryNumbers {
     tables: NO_TABLES,
     beyond: NO_BEYOND,
     refusal: 3,
+    position: 0,
 };
 
 // What opening in an edition answered, as numbers.
@@ -76,14 +88,17 @@ fn numbers_of(edition: Edition, o: Opened) -> EntryNumbers
             tables,
             beyond,
             refusal: 0,
+            position: 0,
         },
         Opened::Refused(why) => {
             let refusal = refusal_numbers::of_file(why) as usize;
+            let position = refusal_numbers::position(why);
             EntryNumbers {
                 edition: NO_EDITION,
                 tables: NO_TABLES,
                 beyond: NO_BEYOND,
                 refusal,
+                position,
             }
         }
     }
@@ -124,20 +139,32 @@ fn same_numbers(a: EntryNumbers, b: EntryNumbers) -> bool
 {
     same_edition(a.edition, b.edition)
         & (same_tables(a.tables, b.tables)
-            & (same_beyond(a.beyond, b.beyond) & (a.refusal == b.refusal)))
+            & (same_beyond(a.beyond, b.beyond)
+                & ((a.refusal == b.refusal) & (a.position == b.position))))
 }
 
-pub fn refusal_in(file: &[u8], n: EntryNumbers) -> usize
-    ensures { λ r. ⌜ r ≡ entryRefusal (now (file .entry)) n ⌝ }
+// What opening said, but for what it gives.
+fn refusal_of(o: Opened) -> EntryRefusal
+    ensures { λ r. ⌜ saysRefusal r ≡ refusalOf (saysOpened o) ⌝ }
+{
+    match o {
+        Opened::Entry(_, _) => EntryRefusal::Accepted,
+        Opened::Refused(why) => EntryRefusal::File(why),
+    }
+}
+
+pub fn refusal_in(file: &[u8], n: EntryNumbers) -> EntryRefusal
+    ensures { λ r. ⌜ saysRefusal r ≡ entryRefusal (now (file .entry)) n ⌝ }
 {
     let e = n.edition;
-    if same_numbers(n, numbers_in(file, e)) {
-        return n.refusal;
+    let o = read::open(file, e);
+    if same_numbers(n, numbers_of(e, o)) {
+        return refusal_of(o);
     }
     if same_numbers(n, EDITION_REFUSED) {
-        return n.refusal;
+        return EntryRefusal::File(FileRefusal::Counts);
     }
-    17
+    EntryRefusal::NotOpened
 }
 
 pub fn names_in(file: &[u8], n: EntryNumbers) -> Names

@@ -2,7 +2,7 @@
 -- Assumes nothing.
 use mathlib.Core.Path.{_≡_, sym, ap, ap₂, _∙_}
 use mathlib.Core.Bool.{Bool, true, false, _&&_, not, and-false}
-use mathlib.Core.List.{List, []}
+use mathlib.Core.List.{List, [], _∷_}
 use Prim.Native.Nat.{ℕ, _+_, _-_, _*_, _%_, _≤_, _<_}
 use native.Mathlib.Omega.{arith}
 use lib.Dec.{leb, eqb, ltb}
@@ -11,7 +11,7 @@ use borrow.Author.Tests.{lt-leb, le-leb, eq-eqb, ne-eqb, lt-ltb, le-ltb, leb-tru
 use Rattle.base.specs.If.{if_then_else_}
 use Rattle.base.proofs.IfLaws.{below-or, true-false, and-left}
 use Rattle.base.specs.Scan.{scan}
-use Rattle.base.proofs.ScanLaws.{scan-all, scan-before, scan-ext}
+use Rattle.base.proofs.ScanLaws.{scan-all, scan-le, scan-before, scan-ext}
 use Rattle.word.specs.Word.{word}
 use Rattle.word.specs.Nul.{nulFrom, notNulAt}
 use Rattle.edition.specs.declared.Edition.{Edition}
@@ -23,6 +23,7 @@ use Rattle.entry.specs.State.{okBoolean, okSlot, half}
 use Rattle.base.specs.Answer.{Answer, refused, gives, mapAnswer}
 use Rattle.entry.specs.Layout.{sizesOf, sizeOf, tablesOf, booleansAt, numbersAt, stringsAt, tableAt}
 use Rattle.entry.specs.Reading.{okCounts, okNames, okBooleans, okPad, okNumbers, okStrings, okOffset, offset, reading}
+use Rattle.entry.specs.Reading.{okBooleanAt, okNumberAt, okStringAt, badNames, badBoolean, badNumber, badString}
 use Rattle.entry.specs.Asking.{openingOf, opening}
 use Rattle.entry_laws.specs.Accepted.{accepted-facts, accepted-sizes}
 use Rattle.file_tables.specs.Framed.{Shorts, Framed, OffsetsEnd}
@@ -93,21 +94,29 @@ module _ {f : List ℕ} {s : Sizes} {t : Tables} (k : Framed f s t) where
   unfolding tablesOf
   in-strings = ap (λ (u : Tables). u .strings) (k .places)
 
--- ---- the checks of the tables, by the places that code holds
+-- ---- the checks of the tables and the positions, by the places that code holds
+
+-- an index that a scan comes to
+pub index-most : (ok : ℕ → Bool) (m n : ℕ) → n ≡ scan ok 0 m → n ≤ m
+index-most ok m n e = let l = scan-le ok 0 m in omega arith
 
 module _ {f : List ℕ} {s : Sizes} {t : Tables} (k : Framed f s t) where
-  booleans-scan : (n : ℕ) → n ≡ scan (λ i. okBoolean (getD f (t .«booleans_at» + i) 0)) 0 (t .booleans)
-      → n ≡ scan (λ i. okBoolean (getD f (booleansAt s + i) 0)) 0 (s .booleans)
-  booleans-scan n e = e ∙ ap₂ (λ (b m : ℕ). scan (λ i. okBoolean (getD f (b + i) 0)) 0 m) (at-booleans k) (in-booleans k)
-
   module _ (n : ℕ) (e : n ≡ scan (λ i. okBoolean (getD f (t .«booleans_at» + i) 0)) 0 (t .booleans)) where
+    booleans-scan : n ≡ scan (okBooleanAt f s) 0 (s .booleans)
+    booleans-scan =
+        e ∙ ap₂ (λ (b m : ℕ). scan (λ i. okBoolean (getD f (b + i) 0)) 0 m) (at-booleans k) (in-booleans k)
+
     pub booleans-bad : (n ≡ t .booleans → ⊥) → false ≡ (okBooleans f s && okPad f s)
     unfolding okBooleans
-    booleans-bad h = rw (← booleans-scan n e, ne-eqb n (s .booleans) (λ q. h (q ∙ sym (in-booleans k))))
+    booleans-bad h = rw (← booleans-scan, ne-eqb n (s .booleans) (λ q. h (q ∙ sym (in-booleans k))))
 
     pub booleans-good : n ≡ t .booleans → okPad f s ≡ (okBooleans f s && okPad f s)
     unfolding okBooleans
-    booleans-good h = rw (← booleans-scan n e, eq-eqb n (s .booleans) (h ∙ in-booleans k))
+    booleans-good h = rw (← booleans-scan, eq-eqb n (s .booleans) (h ∙ in-booleans k))
+
+    pub boolean-at : t .«booleans_at» + n ≡ badBoolean f s
+    unfolding badBoolean
+    boolean-at = ap₂ _+_ (at-booleans k) booleans-scan
 
   pub pad-none : (s .names + s .booleans) % 2 ≡ 0 → true ≡ okPad f s
   unfolding okPad
@@ -117,10 +126,18 @@ module _ {f : List ℕ} {s : Sizes} {t : Tables} (k : Framed f s t) where
   unfolding okPad
   pad-byte h = rw (ne-eqb _ _ h, at-booleans k, in-booleans k)
 
-  pub numbers-by : (n : ℕ) → n ≡ scan (λ i. okSlot numberWidth (λ d. ltb d (half numberWidth)) (word numberWidth f (t .«numbers_at» + numberWidth * i))) 0 (t .numbers) → eqb n (t .numbers) ≡ okNumbers f s
-  unfolding okNumbers
-  numbers-by n e =
-      ap₂ eqb (e ∙ ap₂ (λ (b m : ℕ). scan (λ i. okSlot numberWidth (λ d. ltb d (half numberWidth)) (word numberWidth f (b + numberWidth * i))) 0 m) (at-numbers k) (in-numbers k)) (in-numbers k)
+  module _ (n : ℕ) (e : n ≡ scan (λ i. okSlot numberWidth (λ d. ltb d (half numberWidth)) (word numberWidth f (t .«numbers_at» + numberWidth * i))) 0 (t .numbers)) where
+    numbers-scan : n ≡ scan (okNumberAt f s) 0 (s .numbers)
+    numbers-scan =
+        e ∙ ap₂ (λ (b m : ℕ). scan (λ i. okSlot numberWidth (λ d. ltb d (half numberWidth)) (word numberWidth f (b + numberWidth * i))) 0 m) (at-numbers k) (in-numbers k)
+
+    pub numbers-by : eqb n (t .numbers) ≡ okNumbers f s
+    unfolding okNumbers
+    numbers-by = ap₂ eqb numbers-scan (in-numbers k)
+
+    pub number-at : t .«numbers_at» + numberWidth * n ≡ badNumber f s
+    unfolding badNumber
+    number-at = ap₂ (λ (a i : ℕ). a + numberWidth * i) (at-numbers k) numbers-scan
 
 -- ---- offsets that have a NUL at or after them
 
@@ -156,17 +173,24 @@ slot-ext p q h c = rw (h c)
 
 module _ {f : List ℕ} {s : Sizes} {t : Tables} (k : Framed f s t) where
   -- the string slots, judged by the end of the offsets
-  pub strings-by : (n end : ℕ) → OffsetsEnd f (t .«table_at») (s .table) end
-      → n ≡ scan (λ i. okSlot offsetWidth (λ d. ltb d end) (word offsetWidth f (t .«strings_at» + offsetWidth * i))) 0 (t .strings) → eqb n (t .strings) ≡ okStrings f s
-  unfolding okStrings okOffset
-  strings-by n end o e =
-      ap₂ eqb
-      (e ∙ ap₂ (λ (b m : ℕ). scan (λ i. okSlot offsetWidth (λ d. ltb d end) (word offsetWidth f (b + offsetWidth * i))) 0 m) (at-strings k) (in-strings k)
-      ∙ scan-ext _ _ 0 (s .strings) (λ j l r.
-      slot-ext (λ d. ltb d end) (λ c. okOffset f s (offset c))
-      (λ c. sym (o c) ∙ ap (λ (a : ℕ). ltb c (s .table) && ltb (nulFrom f (a + c) (a + s .table)) (a + s .table)) (at-table k))
-      (word offsetWidth f (stringsAt s + offsetWidth * j))))
-      (in-strings k)
+  module _ (n end : ℕ) (o : OffsetsEnd f (t .«table_at») (s .table) end)
+      (e : n ≡ scan (λ i. okSlot offsetWidth (λ d. ltb d end) (word offsetWidth f (t .«strings_at» + offsetWidth * i))) 0 (t .strings)) where
+    strings-scan : n ≡ scan (okStringAt f s) 0 (s .strings)
+    unfolding okOffset
+    strings-scan =
+        e ∙ ap₂ (λ (b m : ℕ). scan (λ i. okSlot offsetWidth (λ d. ltb d end) (word offsetWidth f (b + offsetWidth * i))) 0 m) (at-strings k) (in-strings k)
+        ∙ scan-ext _ _ 0 (s .strings) (λ j l r.
+        slot-ext (λ d. ltb d end) (λ c. okOffset f s (offset c))
+        (λ c. sym (o c) ∙ ap (λ (a : ℕ). ltb c (s .table) && ltb (nulFrom f (a + c) (a + s .table)) (a + s .table)) (at-table k))
+        (word offsetWidth f (stringsAt s + offsetWidth * j)))
+
+    pub strings-by : eqb n (t .strings) ≡ okStrings f s
+    unfolding okStrings
+    strings-by = ap₂ eqb strings-scan (in-strings k)
+
+    pub string-at : t .«strings_at» + offsetWidth * n ≡ badString f s
+    unfolding badString
+    string-at = ap₂ (λ (a i : ℕ). a + offsetWidth * i) (at-strings k) strings-scan
 
 -- ---- the order of refusal
 
@@ -196,29 +220,30 @@ module _ (f : List ℕ) where
 
 module _ {f : List ℕ} {s : Sizes} {t : Tables} (k : Framed f s t) where
   -- what is left once the header has passed
-  reading-framed : reading f ≡ (if not (okNames f s) then refused 4 []
-      else if not (okBooleans f s && okPad f s) then refused 5 []
-      else if not (okNumbers f s) then refused 6 []
-      else if not (okStrings f s) then refused 7 []
+  reading-framed : reading f ≡ (if not (okNames f s) then refused 4 (badNames f s ∷ [])
+      else if not (okBooleans f s && okPad f s) then refused 5 (badBoolean f s ∷ [])
+      else if not (okNumbers f s) then refused 6 (badNumber f s ∷ [])
+      else if not (okStrings f s) then refused 7 (badString f s ∷ [])
       else gives s)
   unfolding reading
   reading-framed =
       rw (le-leb _ _ (k .least), le-leb _ _ (k .most), eq-eqb _ _ (k .magical), ← k .header, k .counts, eq-eqb _ _ (k .size))
 
-  pub tables-names : okNames f s ≡ false → refused 4 [] ≡ reading f
-  tables-names h = rw (reading-framed, h)
+  pub tables-names : {p : ℕ} → p ≡ badNames f s → okNames f s ≡ false → refused 4 (p ∷ []) ≡ reading f
+  tables-names e h = rw (reading-framed, h, e)
 
   module _ (n : okNames f s ≡ true) where
-    pub tables-booleans : (okBooleans f s && okPad f s) ≡ false → refused 5 [] ≡ reading f
-    tables-booleans h = rw (reading-framed, n, h)
+    pub tables-booleans : {p : ℕ} → p ≡ badBoolean f s → (okBooleans f s && okPad f s) ≡ false
+        → refused 5 (p ∷ []) ≡ reading f
+    tables-booleans e h = rw (reading-framed, n, h, e)
 
     module _ (b : (okBooleans f s && okPad f s) ≡ true) where
-      pub tables-numbers : okNumbers f s ≡ false → refused 6 [] ≡ reading f
-      tables-numbers h = rw (reading-framed, n, b, h)
+      pub tables-numbers : {p : ℕ} → p ≡ badNumber f s → okNumbers f s ≡ false → refused 6 (p ∷ []) ≡ reading f
+      tables-numbers e h = rw (reading-framed, n, b, h, e)
 
       module _ (m : okNumbers f s ≡ true) where
-        pub tables-strings : okStrings f s ≡ false → refused 7 [] ≡ reading f
-        tables-strings h = rw (reading-framed, n, b, m, h)
+        pub tables-strings : {p : ℕ} → p ≡ badString f s → okStrings f s ≡ false → refused 7 (p ∷ []) ≡ reading f
+        tables-strings e h = rw (reading-framed, n, b, m, h, e)
 
         pub tables-done : okStrings f s ≡ true → gives s ≡ reading f
         tables-done h = rw (reading-framed, n, b, m, h)

@@ -1,5 +1,6 @@
-// The checks of a file's tables, each of them over every byte or slot of its table (document 01: Compiled entry).
-// Proved: each function is its definition of entry/specs. Assumed: nothing.
+// The checks of a file's tables, each of them over every byte or slot of its table (document 01: Compiled entry), and
+// the position of the first bad one where a check fails (document 02, 2026-05), which is looked for then only. Proved:
+// each function is its definition of entry/specs. Assumed: nothing.
 ghost use mathlib.Core.Path.{_≡_};
 ghost use mathlib.Core.Bool.{_&&_};
 ghost use Prim.Native.Nat.{_+_, _*_, _<_, _≤_};
@@ -10,12 +11,15 @@ ghost use Rattle.word.specs.Word.{word};
 ghost use Rattle.entry.specs.Limits.{shortWidth};
 ghost use Rattle.entry.specs.State.{okBoolean, okSlot};
 ghost use Rattle.entry.specs.Reading.{okNames, okBooleans, okPad, okNumbers, okStrings};
+ghost use Rattle.entry.specs.Reading.{badNames, badBoolean, badNumber, badString};
 ghost use Rattle.file_tables.specs.Framed.{Framed, OffsetsEnd};
 use entry::ABSENT_MARK;
 use entry::CANCELLED_BYTE;
 use entry::CANCELLED_MARK;
 use entry::HALF;
 use entry::HEADER_SIZE;
+use entry::NUMBER_WIDTH;
+use entry::OFFSET_WIDTH;
 use entry::Sizes;
 use entry::Tables;
 
@@ -126,4 +130,35 @@ pub fn strings_ok(file: &[u8], s: Sizes, t: Tables) -> bool
 {
     let end = offsets_end(file, t.table_at, s.table);
     first_bad_slot(file, t.strings_at, t.strings, end) == t.strings
+}
+
+// The first NUL among the names bytes but the last; the last one where there is none.
+pub fn bad_names(file: &[u8], s: Sizes, t: Tables) -> usize
+    requires { ⌜ Framed (now file) s t ⌝ }
+    ensures { λ r. ⌜ r ≡ badNames (now (file .entry)) s ⌝ }
+{
+    word::find_nul(file, HEADER_SIZE, t.booleans_at - 1)
+}
+
+// The first bad boolean; the byte behind them, where the pad stands, if there is none.
+pub fn bad_boolean(file: &[u8], s: Sizes, t: Tables) -> usize
+    requires { ⌜ Framed (now file) s t ⌝ }
+    ensures { λ r. ⌜ r ≡ badBoolean (now (file .entry)) s ⌝ }
+{
+    t.booleans_at + first_bad_boolean(file, t.booleans_at, t.booleans)
+}
+
+pub fn bad_number(file: &[u8], s: Sizes, t: Tables) -> usize
+    requires { ⌜ Framed (now file) s t ⌝ }
+    ensures { λ r. ⌜ r ≡ badNumber (now (file .entry)) s ⌝ }
+{
+    t.numbers_at + NUMBER_WIDTH * first_bad_slot(file, t.numbers_at, t.numbers, HALF)
+}
+
+pub fn bad_string(file: &[u8], s: Sizes, t: Tables) -> usize
+    requires { ⌜ Framed (now file) s t ⌝ }
+    ensures { λ r. ⌜ r ≡ badString (now (file .entry)) s ⌝ }
+{
+    let end = offsets_end(file, t.table_at, s.table);
+    t.strings_at + OFFSET_WIDTH * first_bad_slot(file, t.strings_at, t.strings, end)
 }

@@ -4,7 +4,7 @@
 use mathlib.Core.Path.{_≡_}
 use mathlib.Core.Bool.{_&&_, not}
 use mathlib.Core.List.{List, [], _∷_}
-use Prim.Native.Nat.{ℕ, _≤_}
+use Prim.Native.Nat.{ℕ, _≤_, _<_}
 use lib.Dec.{leb}
 use lib.ListN.{length}
 use Rattle.base.specs.If.{if_then_else_}
@@ -15,7 +15,8 @@ use Rattle.edition.specs.declared.Edition.{Edition}
 use Rattle.edition.specs.Edition.{place, stringsMost}
 use Rattle.entry.specs.State.{State, absent, cancelled, present}
 use Rattle.entry.specs.Asking.{opening, askingBoolean, askingNumber, askingString, partGiven}
-use Rattle.entry.specs.Says.{fileNumber}
+use Rattle.entry.specs.Limits.{fileMost}
+use Rattle.entry.specs.Says.{fileNumber, fileValues, filePosition}
 use Rattle.list_states.specs.declared.Listed.{Listed}
 use Rattle.list_states.specs.declared.Listed.the-variants as L
 
@@ -137,7 +138,7 @@ done x = tt
 
 abbrev pub saysListed : Listed → Answer (Unit {0})
 saysListed L.Done = gives tt
-saysListed (L.Refused r) = refused (fileNumber r) []
+saysListed (L.Refused r) = refused (fileNumber r) (fileValues r)
 saysListed (L.Room n) = refused 8 (n ∷ [])
 
 -- what a call says, and the arrays before it and after it
@@ -145,8 +146,8 @@ pub record Lists (e : Edition) (f : List ℕ) (before after : Arrays) (says : An
   pub answer : says ≡ mapAnswer done (listing e f (roomsOf before))
   pub lent : after ≡ arraysAfter before (listing e f (roomsOf before))
 
--- the count of a refusal 8 is one of an edition's
-abbrev pub CountFits : Listed → Type 0
-CountFits L.Done = Unit {0}
-CountFits (L.Refused r) = Unit {0}
-CountFits (L.Room n) = n ≤ stringsMost
+-- a position is one of a file, and the count of a refusal 8 one of an edition's
+abbrev pub ValueFits : Listed → Type 0
+ValueFits L.Done = Unit {0}
+ValueFits (L.Refused r) = filePosition r < fileMost
+ValueFits (L.Room n) = n ≤ stringsMost

@@ -12,7 +12,7 @@ ghost use Rattle.opened_file.specs.Opened.{OpenedAs};
 ghost use Rattle.list_states.specs.Filled.{NumbersLent, StringsLent, AllLent, saysRoom, CountsFit, RoomFits};
 ghost use Rattle.list_states.specs.Listing.{kindGiven, valueGiven, booleanKinds, numberKinds, numberValues};
 ghost use Rattle.list_states.specs.Listing.{stringKinds, stringStarts, stringLengths, arrays, saysListed};
-ghost use Rattle.list_states.specs.Listing.{statesOf, arraysAfter, rooms, roomFor, Lists, CountFits};
+ghost use Rattle.list_states.specs.Listing.{statesOf, arraysAfter, rooms, roomFor, Lists, ValueFits};
 use edition::Edition;
 use edition::Place;
 use entry::ABSENT;
@@ -237,7 +237,7 @@ fn list_opened(
         (now («string_kinds» .entry)) (now («string_starts» .entry)) (now («string_lengths» .entry)))
         (arrays (now («boolean_kinds» .exit)) (now («number_kinds» .exit)) (now («number_values» .exit))
         (now («string_kinds» .exit)) (now («string_starts» .exit)) (now («string_lengths» .exit))) (saysListed r)
-        × CountFits r ⌝ }
+        × ValueFits r ⌝ }
 {
     match room_for(
         edition,
@@ -283,7 +283,7 @@ pub fn list(
         (now («string_kinds» .entry)) (now («string_starts» .entry)) (now («string_lengths» .entry)))
         (arrays (now («boolean_kinds» .exit)) (now («number_kinds» .exit)) (now («number_values» .exit))
         (now («string_kinds» .exit)) (now («string_starts» .exit)) (now («string_lengths» .exit))) (saysListed r)
-        × CountFits r ⌝ }
+        × ValueFits r ⌝ }
 {
     match read::open(file, edition) {
         Opened::Entry(t, _) => list_opened(

@@ -16,7 +16,6 @@ use edition::Edition;
 use edition::NUMBERS_MOST;
 use edition::STRINGS_MOST;
 use entry::FILE_MOST;
-use entry::FileRefusal;
 use entry::Judged;
 use entry::Merged;
 use entry::Tables;
@@ -177,7 +176,7 @@ fn merge_over(first: &[u8], t: Tables, second: &[u8], edition: Edition, buffer: 
 {
     match read::judge(second) {
         Judged::Accepted(s) => merge_opened(first, t, second, read::tables_for(s), edition, buffer),
-        Judged::Refused(why) => Merged::Refused(why),
+        Judged::Refused(why) => Merged::Second(why),
     }
 }
 
@@ -187,10 +186,10 @@ pub fn merge(first: &[u8], second: &[u8], edition: Edition, buffer: &mut [u8]) -
         (length (now (buffer .entry)))) (now (buffer .entry)) (now (buffer .exit)) (saysMerged r) ⌝ }
 {
     if !edition::edition_ok(edition) {
-        return Merged::Refused(FileRefusal::Counts);
+        return Merged::Edition;
     }
     match read::judge(first) {
         Judged::Accepted(s) => merge_over(first, read::tables_for(s), second, edition, buffer),
-        Judged::Refused(why) => Merged::Refused(why),
+        Judged::Refused(why) => Merged::First(why),
     }
 }

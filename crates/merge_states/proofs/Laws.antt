@@ -34,12 +34,12 @@ use Rattle.entry.specs.Layout.{sizesOf, sizeOf, tablesOf, beyondOf}
 use Rattle.entry.specs.Reading.{bytesOf, reading, namesPart, partIn, stringIn, booleanIn, numberIn}
 use Rattle.entry.specs.Asking.{opening, asking, askingNames, askingBoolean, askingNumber, askingString}
 use Rattle.entry.specs.Writing.{Handed, stateOf, stringHanded, stringTable, sizesFor, encode, entryOf, fitting}
-use Rattle.entry.specs.Merging.{over, mergedBoolean, mergedNumber, mergedString, merged, merging}
+use Rattle.entry.specs.Merging.{over, mergedBoolean, mergedNumber, mergedString, merged, ofFile, merging}
 use Rattle.entry.specs.Says.{saysBoolean, saysNumber, saysString}
 use Rattle.entry_laws.specs.Accepted.{Accepted, test-passed, reading-accepted, names-most}
 use Rattle.entry_laws.specs.Asked.{asking-gives}
 use Rattle.entry_laws.specs.Parts.{length-encode}
-use Rattle.entry_laws.specs.Merge.{given-andThen, edition-counts}
+use Rattle.entry_laws.specs.Merge.{given-andThen, of-file-given, edition-counts}
 use Rattle.file_tables.proofs.Laws.{open-file}
 use Rattle.opened_file.specs.Opened.{OpenedAs}
 use Rattle.opened_file.proofs.Laws.{asking-given, opened-accepted, string-inside}
@@ -67,8 +67,8 @@ module _ {e : Edition} {f : List ℕ} {t : Tables} (o : OpenedAs e f t) where
   pub opened-file : Accepted f
   opened-file = opened-accepted e f given
 
-  opened-reading : isGiven (reading f) ≡ true
-  opened-reading = ap isGiven (reading-accepted f opened-file)
+  given-file : (k : ℕ) → isGiven (ofFile k (reading f)) ≡ true
+  given-file k = of-file-given k (reading f) ∙ ap isGiven (reading-accepted f opened-file)
 
   pub opened-edition : okEdition e ≡ true
   unfolding opening
@@ -363,16 +363,18 @@ module _ (e : Edition) (x y b : List ℕ) where
   unfolding merging
   merge-edition o = (rw o, rw o)
 
-  pub merge-first : okEdition e ≡ true → (n : ℕ) (v : List ℕ) → refused n v ≡ reading x → Merges e x y b b (refused n v)
+  pub merge-first : okEdition e ≡ true → (n : ℕ) (v : List ℕ) → refused n v ≡ reading x
+      → Merges e x y b b (refused n (1 ∷ v))
   unfolding merging
   merge-first o n v q = (rw (o, ← q), rw (o, ← q))
 
-  pub merge-second : {t : Tables} → OpenedAs e x t → (n : ℕ) (v : List ℕ) → refused n v ≡ reading y → Merges e x y b b (refused n v)
+  pub merge-second : {t : Tables} → OpenedAs e x t → (n : ℕ) (v : List ℕ) → refused n v ≡ reading y
+      → Merges e x y b b (refused n (2 ∷ v))
   unfolding merging
   merge-second o n v q =
       let z = opened-edition o in
-      let r : Answer (List ℕ) = refused n v in
-      let g : andThen (reading x) r ≡ r = given-andThen (reading x) r (opened-reading o) in
+      let r : Answer (List ℕ) = refused n (2 ∷ v) in
+      let g : andThen (ofFile 1 (reading x)) r ≡ r = given-andThen (ofFile 1 (reading x)) r (given-file o 1) in
       (rw (z, ← q, g), rw (z, ← q, g))
 
   module _ {t u : Tables} (o : BothOpened e x t y u) where
@@ -380,7 +382,11 @@ module _ (e : Edition) (x y b : List ℕ) where
     unfolding merging
     merging-opened =
         let z = opened-edition (o .first) in
-        rw (z, given-andThen (reading x) _ (opened-reading (o .first)), given-andThen (reading y) _ (opened-reading (o .second)))
+        rw (
+          z,
+          given-andThen (ofFile 1 (reading x)) _ (given-file (o .first) 1),
+          given-andThen (ofFile 2 (reading y)) _ (given-file (o .second) 2),
+        )
 
     pub merge-fitted : (f c : List ℕ) (says : Answer ℕ) → f ≡ encode (merged e x y) → Fitted f b c says → Merges e x y b c says
     merge-fitted f c says q w = subst (λ (z : Answer (List ℕ)). Leaves z b c says) (sym merging-opened) (subst (λ (g : List ℕ). Fitted g b c says) q w)

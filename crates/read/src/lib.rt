@@ -1,6 +1,6 @@
 // Opens compiled entries (document 01: Compiled entry, order of reading): the header, then every slot of the file,
-// whatever the edition knows. Proved: `judge` and `open` answer every slice of bytes and every edition as `reading`
-// and `opening` of entry/specs say. Assumed: nothing.
+// whatever the edition knows; a refused file with the position of its first bad byte or slot. Proved: `judge` and
+// `open` answer every slice of bytes and every edition as `reading` and `opening` of entry/specs say. Assumed: nothing.
 ghost use mathlib.Core.Path.{_≡_};
 ghost use Prim.Native.Nat.{_+_, _*_, _-_, _<_, _≤_};
 ghost use lib.ListN.{length};
@@ -27,7 +27,7 @@ use entry::Sizes;
 use entry::Tables;
 
 // The header's sizes.
-fn sizes(file: &[u8]) -> Sizes
+pub fn sizes(file: &[u8]) -> Sizes
     requires { ⌜ 12 ≤ length (now file) ⌝ }
     ensures { λ r. ⌜ (r ≡ sizesOf (now (file .entry))) × Shorts r ⌝ }
 {
@@ -92,16 +92,16 @@ fn judge_tables(file: &[u8], s: Sizes, t: Tables) -> Judged
     ensures { λ r. ⌜ saysJudged r ≡ reading (now (file .entry)) ⌝ }
 {
     if !file_tables::names_ok(file, s, t) {
-        return Judged::Refused(FileRefusal::Names);
+        return Judged::Refused(FileRefusal::Names(file_tables::bad_names(file, s, t)));
     }
     if !file_tables::booleans_ok(file, s, t) {
-        return Judged::Refused(FileRefusal::Boolean);
+        return Judged::Refused(FileRefusal::Boolean(file_tables::bad_boolean(file, s, t)));
     }
     if !file_tables::numbers_ok(file, s, t) {
-        return Judged::Refused(FileRefusal::Number);
+        return Judged::Refused(FileRefusal::Number(file_tables::bad_number(file, s, t)));
     }
     if !file_tables::strings_ok(file, s, t) {
-        return Judged::Refused(FileRefusal::Slot);
+        return Judged::Refused(FileRefusal::Slot(file_tables::bad_string(file, s, t)));
     }
     Judged::Accepted(s)
 }
@@ -130,8 +130,8 @@ pub fn judge(file: &[u8]) -> Judged
     judge_tables(file, s, t)
 }
 
-// How far n is past k.
-fn past(n: usize, k: usize) -> usize
+// How far n is past k; 0 where it isn't.
+pub fn past(n: usize, k: usize) -> usize
     ensures { λ r. ⌜ r ≡ n - k ⌝ }
 {
     if n < k {

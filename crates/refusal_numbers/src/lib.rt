@@ -1,8 +1,8 @@
-// Document 01's number of each answer's refusal (Numbers of refusal); 0 where the call is done. Proved: each number is
-// that of the definition which says what the answer means. Assumed: nothing.
+// Document 01's number of each answer's refusal (Numbers of refusal), 0 where the call is done; and the position that
+// a file's refusal gives. Proved: each is that of the definition which says what the answer means. Assumed: nothing.
 ghost use mathlib.Core.Path.{_≡_};
 ghost use Rattle.base.specs.Answer.{numberOf};
-ghost use Rattle.entry.specs.Says.{fileNumber, saysNames, saysBoolean, saysNumber, saysString};
+ghost use Rattle.entry.specs.Says.{fileNumber, filePosition, saysNames, saysBoolean, saysNumber, saysString};
 ghost use Rattle.entry.specs.Says.{saysWritten, saysMerged};
 ghost use Rattle.names.specs.Naming.{saysName};
 ghost use Rattle.names.specs.Finding.{saysFound, stringFound};
@@ -29,10 +29,25 @@ pub fn of_file(why: FileRefusal) -> u8
         FileRefusal::Length => 1,
         FileRefusal::Magic => 2,
         FileRefusal::Counts => 3,
-        FileRefusal::Names => 4,
-        FileRefusal::Boolean => 5,
-        FileRefusal::Number => 6,
-        FileRefusal::Slot => 7,
+        FileRefusal::Names(_) => 4,
+        FileRefusal::Boolean(_) => 5,
+        FileRefusal::Number(_) => 6,
+        FileRefusal::Slot(_) => 7,
+    }
+}
+
+// The position that it gives; 0 where it gives none.
+pub fn position(why: FileRefusal) -> usize
+    ensures { λ r. ⌜ r ≡ filePosition why ⌝ }
+{
+    match why {
+        FileRefusal::Length => 0,
+        FileRefusal::Magic => 0,
+        FileRefusal::Counts => 0,
+        FileRefusal::Names(at) => at,
+        FileRefusal::Boolean(at) => at,
+        FileRefusal::Number(at) => at,
+        FileRefusal::Slot(at) => at,
     }
 }
 
@@ -97,7 +112,9 @@ pub fn of_merged(answer: Merged) -> u8
 {
     match answer {
         Merged::File(_) => 0,
-        Merged::Refused(why) => of_file(why),
+        Merged::Edition => 3,
+        Merged::First(why) => of_file(why),
+        Merged::Second(why) => of_file(why),
         Merged::Size => 9,
         Merged::Room(_) => 8,
     }

@@ -9,7 +9,7 @@ ghost use Rattle.expansion.specs.Expanding.{expanding};
 ghost use Rattle.expand_output.specs.Answers.{LentAs};
 ghost use Rattle.terminfo.specs.Entries.{openedEntry};
 ghost use Rattle.entry_numbers.specs.Entries.{entryRefusal, entryNames, entryBoolean, entryNumber, entryString};
-ghost use Rattle.entry_numbers.specs.Entries.{entryBeyond, saysBeyond};
+ghost use Rattle.entry_numbers.specs.Entries.{entryBeyond, saysBeyond, saysRefusal};
 ghost use Rattle.terminfo.specs.Lent.{zeroLasting, expandingAt, WrittenAs};
 ghost use Rattle.terminfo.specs.Parts.{NamesAs, StringAs};
 use edition::Edition;
@@ -20,6 +20,7 @@ use entry::NumberState;
 use entry::StringState;
 use entry_numbers::BeyondEdition;
 use entry_numbers::EntryNumbers;
+use entry_numbers::EntryRefusal;
 use expansion::Expansion;
 use expansion::Lasting;
 
@@ -49,9 +50,10 @@ pub fn open<'a>(file: &'a [u8], edition: Edition) -> Entry<'a>
     Entry { file, numbers }
 }
 
-// The number under which opening refused the file; 0 where it did not; 17 for an entry that opening would not give.
-pub fn refusal<'a>(e: Entry<'a>) -> usize
-    ensures { λ r. ⌜ r ≡ entryRefusal (now (e .entry .file)) (e .entry .numbers) ⌝ }
+// What opening said of the file: accepted, or why not, with the position of the first bad byte or slot; 17 for an
+// entry that opening would not give.
+pub fn refusal<'a>(e: Entry<'a>) -> EntryRefusal
+    ensures { λ r. ⌜ saysRefusal r ≡ entryRefusal (now (e .entry .file)) (e .entry .numbers) ⌝ }
 {
     entry_numbers::refusal_in(e.file, e.numbers)
 }

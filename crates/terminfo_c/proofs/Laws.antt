@@ -1,17 +1,16 @@
 -- The cases of the C calls' numbers, as their code meets them.
 -- Assumes nothing.
-use mathlib.Core.Path.{_≡_, refl, ap, _∙_}
-use mathlib.Core.Bool.{Bool, true, false, _&&_, not}
+use mathlib.Core.Path.{_≡_, refl, sym, ap, _∙_}
+use mathlib.Core.Bool.{Bool, true, false, not}
 use mathlib.Core.List.{List, [], _∷_}
-use Prim.Native.Nat.{ℕ, _*_, _^_, _≤_}
+use Prim.Native.Nat.{ℕ, _+_, _*_, _^_, _≤_, _<_}
 use native.Mathlib.Omega.{arith}
-use lib.Dec.{eqb, leb}
+use lib.Dec.{leb}
 use lib.ListN.{length, getD}
 use borrow.Author.Tests.{leb-true}
 use Rattle.base.specs.If.{if_then_else_}
 use Rattle.base.specs.Scan.{every}
 use Rattle.base.specs.Tabulate.{tabulate}
-use Rattle.word.specs.Word.{word}
 use Rattle.edition.specs.declared.Edition.{Edition}
 use Rattle.edition.specs.Edition.{okEdition}
 use Rattle.entry.specs.declared.Names.{Names}
@@ -20,19 +19,22 @@ use Rattle.entry.specs.declared.Written.the-variants as W
 use Rattle.entry.specs.declared.Merged.{Merged}
 use Rattle.entry.specs.declared.Merged.the-variants as G
 use Rattle.entry.specs.declared.Sizes.{Sizes}
-use Rattle.entry.specs.Limits.{magic, headerSize, fileMost, shortWidth}
-use Rattle.base.specs.Answer.{Answer, refused, gives, mapAnswer, andThen}
-use Rattle.entry.specs.Layout.{sizesOf, sizeOf}
-use Rattle.entry.specs.Reading.{okCounts, okNames, okBooleans, okPad, okNumbers, okStrings, reading}
+use Rattle.entry.specs.Limits.{fileMost}
+use Rattle.base.specs.Answer.{Answer, refused, gives, mapAnswer, andThen, numberOf}
+use Rattle.entry.specs.Layout.{sizesOf}
+use Rattle.entry.specs.Reading.{reading}
 use Rattle.entry.specs.Asking.{Opening, opening}
 use Rattle.entry.specs.Writing.{Handed, encode, entryOf, enoughStates, namesFit, isLent, statesFit, writing}
-use Rattle.entry.specs.Merging.{merged, merging}
-use Rattle.entry.specs.Says.{saysWritten, saysMerged}
+use Rattle.entry.specs.Merging.{merged, ofFile, merging}
+use Rattle.entry.specs.Says.{fileNumber, saysWritten, saysMerged}
+use Rattle.entry_laws.specs.Accepted.{reading-lines}
 use Rattle.entry_laws.specs.Demands.{written-only-if}
 use Rattle.entry_laws.specs.MergeDemands.{merged-only-if}
+use Rattle.file_positions.proofs.Positions.{merged-fits}
 use Rattle.list_states.specs.Listing.{done}
-use Rattle.c_numbers.specs.Numbers.{numbered, none, openingArray}
+use Rattle.c_numbers.specs.Numbers.{numbered, mergedNumber, none, openingArray}
 use Rattle.c_numbers.specs.Numbers.{WrittenWithin, MergedWithin}
+use Rattle.c_numbers.proofs.Laws.{file-most}
 use Rattle.c_asked.specs.Asked.{askedCode, asking8}
 use Rattle.terminfo_c.specs.Calls.{arrayAfter}
 
@@ -58,9 +60,10 @@ module _ (a : Answer Opening) (before : List ℕ) where
   unfolding numbered
   open-done o g = (rw (← g), rw (← g))
 
-  pub open-refused : (n : ℕ) → refused n [] ≡ a → (n * 2 ^ 56 ≡ numbered none a) × (before ≡ arrayAfter before (mapAnswer openingArray a))
+  pub open-refused : (n : ℕ) (v : List ℕ) → refused n v ≡ a
+      → (n * 2 ^ 56 + getD v 0 0 ≡ numbered none a) × (before ≡ arrayAfter before (mapAnswer openingArray a))
   unfolding numbered
-  open-refused n g = (rw (← g) (omega arith), rw (← g))
+  open-refused n v g = (rw (← g), rw (← g))
 
 -- ---- writing
 
@@ -129,26 +132,29 @@ written-within e h room (W.Room n) g = room-most e h room n (map-refused 8 (n �
 
 -- ---- merging
 
-reading-no-room : (f : List ℕ) → NoRoom (reading f)
-unfolding reading
-reading-no-room f =
-    let s : Sizes = sizesOf f in
-    no-room-if (leb headerSize (length f) && leb (length f) fileMost) 1 _ (λ q. omega arith)
-    (no-room-if (eqb (word shortWidth f 0) magic) 2 _ (λ q. omega arith)
-    (no-room-if (okCounts s) 3 _ (λ q. omega arith)
-    (no-room-if (eqb (length f) (sizeOf s)) 1 _ (λ q. omega arith)
-    (no-room-if (okNames f s) 4 _ (λ q. omega arith)
-    (no-room-if (okBooleans f s && okPad f s) 5 _ (λ q. omega arith)
-    (no-room-if (okNumbers f s) 6 _ (λ q. omega arith)
-    (no-room-if (okStrings f s) 7 _ (λ q. omega arith) (no-room-gives s))))))))
+reading-no-room : (f : List ℕ) (k : ℕ) → NoRoom (ofFile k (reading f))
+reading-no-room f k =
+    reading-lines f (λ a. NoRoom (ofFile k a)) (record {
+      on1 = λ v e. other 1 v _ e (omega arith);
+      on2 = λ v e. other 2 v _ e (omega arith);
+      on3 = λ v e. other 3 v _ e (omega arith);
+      on4 = λ _ _ v e. other 4 v _ e (omega arith);
+      on5 = λ _ _ v e. other 5 v _ e (omega arith);
+      on6 = λ _ _ v e. other 6 v _ e (omega arith);
+      on7 = λ _ _ v e. other 7 v _ e (omega arith);
+      accepted = λ _. no-room-gives (sizesOf f);
+    })
+  where
+    other : (n : ℕ) (v w : List ℕ) → _≡_ {A = Answer Sizes} (refused 8 v) (refused n w) → n < 8 → ⊥
+    other n v w e l = let z : _≡_ {A = ℕ} 8 n = ap numberOf e in omega arith
 
 merge-room-most : (e : Edition) (a b : List ℕ) (room : ℕ) → Bounded (merging e a b room)
 unfolding merging
 merge-room-most e a b room =
     let size : ℕ = length (encode (merged e a b)) in
     bounded-if (okEdition e) 3 _ (λ q. omega arith) (λ _.
-    bounded-then (reading a) _ (reading-no-room a)
-    (bounded-then (reading b) _ (reading-no-room b)
+    bounded-then (ofFile 1 (reading a)) _ (reading-no-room a 1)
+    (bounded-then (ofFile 2 (reading b)) _ (reading-no-room b 2)
     (bounded-if (leb size fileMost) 9 _ (λ q. omega arith) (λ l.
     bounded-room size room _ (leb-true size fileMost l)))))
 
@@ -159,7 +165,11 @@ merged-within e a b room (G.File n) g =
     let l : n ≡ length (encode (merged e a b)) = p .1 .0 ∙ ap length (q .1 .1) in
     let m = q .0 .size in
     omega arith
-merged-within e a b room (G.Refused r) g = tt
+merged-within e a b room G.Edition g = tt
+merged-within e a b room (G.First r) g =
+    merged-fits e a b room (fileNumber r) _ (sym (map-refused _ _ (merging e a b room) g)) (file-most r)
+merged-within e a b room (G.Second r) g =
+    merged-fits e a b room (fileNumber r) _ (sym (map-refused _ _ (merging e a b room) g)) (file-most r)
 merged-within e a b room G.Size g = tt
 merged-within e a b room (G.Room n) g = merge-room-most e a b room n (map-refused 8 (n ∷ []) (merging e a b room) g)
 
@@ -168,6 +178,11 @@ pub numbered-length : (a : Answer (List ℕ)) → numbered (λ n. n) (mapAnswer 
 unfolding numbered
 numbered-length (refused n v) = refl
 numbered-length (gives f) = refl
+
+pub merged-length : (a : Answer (List ℕ)) → mergedNumber (λ n. n) (mapAnswer length a) ≡ mergedNumber length a
+unfolding mergedNumber
+merged-length (refused n v) = refl
+merged-length (gives f) = refl
 
 -- ---- listing every state
 

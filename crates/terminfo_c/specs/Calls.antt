@@ -5,7 +5,6 @@ use mathlib.Core.Path.{_≡_}
 use mathlib.Core.List.{List}
 use Prim.Native.Nat.{ℕ}
 use lib.IntN.{ℤ}
-use lib.ListN.{length}
 use Rattle.edition.specs.declared.Edition.{Edition}
 use Rattle.base.specs.Answer.{Answer, refused, gives, mapAnswer, bufferAfter}
 use Rattle.list_states.specs.Listing.{Arrays, roomsOf, listing, arraysAfter}
@@ -22,9 +21,9 @@ pub record ListedNumber (e : Edition) (f : List ℕ) (before after : Arrays) (r 
   pub number : r ≡ numbered none (listing e f (roomsOf before))
   pub lent : after ≡ arraysAfter before (listing e f (roomsOf before))
 
--- the number and the buffer that a call leaves which gives a file
-pub record FileNumber (a : Answer (List ℕ)) (before after : List ℕ) (r : ℕ) : Type 0 where
-  pub number : r ≡ numbered length a
+-- the number, by that call's own code, and the buffer that a call leaves which gives a file
+pub record FileNumber (code : Answer (List ℕ) → ℕ) (a : Answer (List ℕ)) (before after : List ℕ) (r : ℕ) : Type 0 where
+  pub number : r ≡ code a
   pub buffer : after ≡ bufferAfter before a
 
 -- the number, the lasting variables and the buffer that expanding leaves

@@ -11,7 +11,7 @@ ghost use Rattle.entry.specs.Writing.{writing};
 ghost use Rattle.text.specs.Building.{first, named};
 ghost use Rattle.text.specs.Compiling.{compiling};
 ghost use Rattle.expansion.specs.Expanding.{expanding};
-ghost use Rattle.c_numbers.specs.Numbers.{numbered, none, partCode, openingArray};
+ghost use Rattle.c_numbers.specs.Numbers.{numbered, mergedNumber, none, partCode, openingArray};
 ghost use Rattle.c_asked.specs.Asked.{edition, booleanState, numberState, stringState};
 ghost use Rattle.c_asked.specs.Asked.{asking8, namingBy, findNumber, namedState};
 ghost use Rattle.terminfo_c.specs.Calls.{arrayAfter, FileNumber, ExpandedNumber, ListedNumber};
@@ -22,7 +22,7 @@ use entry::Opened;
 
 mod list;
 
-// Opens a file: 0, with the array filled, or the refusal.
+// Opens a file: 0, with the array filled, or the refusal with the position of the first bad byte or slot.
 #[no_mangle]
 pub extern "C" fn terminfo_open(
     file: &[u8],
@@ -47,7 +47,7 @@ pub extern "C" fn terminfo_open(
             *tables = c_numbers::opening_array(t, b);
             0
         }
-        Opened::Refused(why) => c_numbers::top(refusal_numbers::of_file(why)),
+        Opened::Refused(why) => c_numbers::file_number(why),
     }
 }
 
@@ -225,7 +225,7 @@ pub extern "C" fn terminfo_write(
     lent: &[u8],
     buffer: &mut [u8],
 ) -> u64
-    ensures { λ r. ⌜ FileNumber (writing (edition booleans numbers strings)
+    ensures { λ r. ⌜ FileNumber (numbered length) (writing (edition booleans numbers strings)
         (handed (now (names .entry)) (now («boolean_kinds» .entry)) (now («number_kinds» .entry))
         (now («number_values» .entry)) (now («string_kinds» .entry)) (now («string_starts» .entry))
         (now («string_lengths» .entry)) (now (lent .entry))) (length (now (buffer .entry))))
@@ -250,7 +250,7 @@ pub extern "C" fn terminfo_write(
     c_numbers::written_number(w)
 }
 
-// Merges the first file over the second: the merged file's length, or the refusal.
+// Merges the first file over the second: the merged file's length, or the refusal, of a file with which one it was.
 #[no_mangle]
 pub extern "C" fn terminfo_merge(
     first: &[u8],
@@ -260,8 +260,8 @@ pub extern "C" fn terminfo_merge(
     strings: usize,
     buffer: &mut [u8],
 ) -> u64
-    ensures { λ r. ⌜ FileNumber (merging (edition booleans numbers strings) (now (first .entry)) (now (second .entry))
-        (length (now (buffer .entry)))) (now (buffer .entry)) (now (buffer .exit)) r ⌝ }
+    ensures { λ r. ⌜ FileNumber (mergedNumber length) (merging (edition booleans numbers strings)
+        (now (first .entry)) (now (second .entry)) (length (now (buffer .entry)))) (now (buffer .entry)) (now (buffer .exit)) r ⌝ }
 {
     let m = merge::merge(
         first,
@@ -286,7 +286,7 @@ pub extern "C" fn terminfo_compile(
     strings: usize,
     buffer: &mut [u8],
 ) -> u64
-    ensures { λ r. ⌜ FileNumber (compiling (edition booleans numbers strings) (now (text .entry))
+    ensures { λ r. ⌜ FileNumber (numbered length) (compiling (edition booleans numbers strings) (now (text .entry))
         (named (now (wanted .entry))) (length (now (buffer .entry)))) (now (buffer .entry)) (now (buffer .exit)) r ⌝ }
 {
     let c = compile::compile(
@@ -311,8 +311,8 @@ pub extern "C" fn terminfo_compile_first(
     strings: usize,
     buffer: &mut [u8],
 ) -> u64
-    ensures { λ r. ⌜ FileNumber (compiling (edition booleans numbers strings) (now (text .entry)) first
-        (length (now (buffer .entry)))) (now (buffer .entry)) (now (buffer .exit)) r ⌝ }
+    ensures { λ r. ⌜ FileNumber (numbered length) (compiling (edition booleans numbers strings)
+        (now (text .entry)) first (length (now (buffer .entry)))) (now (buffer .entry)) (now (buffer .exit)) r ⌝ }
 {
     let c = compile::compile_first(
         Edition {

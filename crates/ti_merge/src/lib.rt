@@ -9,7 +9,6 @@ use ti_common::Status;
 use ti_common::words::Task;
 use ti_common::words::Words;
 use ti_options::Outcome;
-use ti_refusals::accept;
 
 fn describe(words: Words) -> Status {
     ti_common::words::describe(
@@ -23,14 +22,6 @@ fn describe(words: Words) -> Status {
 
 fn misuse() -> Status {
     ti_common::words::misuse(b"merge [-e EDITION] A B OUT")
-}
-
-// Says which of two files is refused.
-fn refuse_files(a: &[u8], b: &[u8], first: &[u8], second: &[u8]) -> Status {
-    if accept(a, first) {
-        accept(b, second);
-    }
-    Status::Refused
 }
 
 // Merges two files and saves the file, or says why not.
@@ -50,7 +41,9 @@ fn merge_to(
             let k = ti_common::part(n, &file);
             ti_files::save::save_saying(out, &file[..k], b"merged: ")
         }
-        Merged::Refused(_) => refuse_files(a, b, first, second),
+        Merged::Edition => ti_refusals::refuse_edition(),
+        Merged::First(why) => ti_refusals::refuse_file(a, first, edition, why),
+        Merged::Second(why) => ti_refusals::refuse_file(b, second, edition, why),
         Merged::Size => ti_refusals::refuse(
             out,
             b"the merged file would be longer than 4,096 bytes",

@@ -1,13 +1,10 @@
 // Refusals as people read them: `ti: NAME: sentence (refusal N)`, with the byte where the refusal gives one. Proved:
-// `open` and `accept` answer as entry/specs says; each function is safe and ends. Assumed: what libc and os say of C.
+// `open` answers as entry/specs says; each function is safe and ends. Assumed: what libc and os say of C.
 ghost use mathlib.Core.Path.{_≡_};
-ghost use Rattle.base.specs.Answer.{isGiven};
 ghost use Rattle.entry.specs.Asking.{opening};
-ghost use Rattle.entry.specs.Reading.{reading};
 ghost use Rattle.entry.specs.Says.{saysOpened};
 use edition::Edition;
 use entry::FileRefusal;
-use entry::Judged;
 use entry::Opened;
 use names::Found;
 use text::Compiled;
@@ -15,6 +12,8 @@ use ti_common::Status;
 use ti_common::complain;
 use ti_common::complain_number;
 use ti_common::output::complain_quoted;
+
+mod file;
 
 // Begins a message: the name of what is refused, where `-` is standard input.
 pub fn begin(path: &[u8]) {
@@ -102,57 +101,25 @@ pub fn refuse_unknown(path: &[u8], name: &[u8], number: u8) -> Status {
     end(number)
 }
 
-// What is wrong with a file.
-fn complain_file(why: FileRefusal) {
-    match why {
-        FileRefusal::Length => {
-            complain(b"wrong length: a file has 12 to 4,096 bytes, as many as its header says")
-        }
-        FileRefusal::Magic => complain(b"the first short is not 282, the mark of compiled entries"),
-        FileRefusal::Counts => {
-            complain(b"a size in the header is out of range: names 2 to 128, others at most 32,767")
-        }
-        FileRefusal::Names => complain(b"the names do not end in their only NUL"),
-        FileRefusal::Boolean => {
-            complain(b"a boolean is none of 0, 1 and 254, or the pad byte is not 0")
-        }
-        FileRefusal::Number => {
-            complain(b"a number is above 32,767 and neither absent nor cancelled")
-        }
-        FileRefusal::Slot => {
-            complain(b"a string's offset is outside the string table, ");
-            complain(b"or no NUL stands at or after it");
-        }
-    }
-}
-
-// Says that a file is refused.
-pub fn refuse_file(path: &[u8], why: FileRefusal) -> Status {
+// Says that a file is refused, with the byte where the refusal gives one.
+pub fn refuse_file(path: &[u8], file: &[u8], edition: Edition, why: FileRefusal) -> Status {
     begin(path);
     complain(b": ");
-    complain_file(why);
-    end(refusal_numbers::of_file(why))
-}
-
-// Whether a file is accepted; if not, says why.
-pub fn accept(path: &[u8], file: &[u8]) -> bool
-    ensures { λ r. ⌜ r ≡ isGiven (reading (now (file .entry))) ⌝ }
-{
-    match read::judge(file) {
-        Judged::Accepted(_) => true,
-        Judged::Refused(why) => {
-            refuse_file(path, why);
-            false
-        }
+    file::complain_file(file, edition, why);
+    let number = refusal_numbers::of_file(why);
+    let position = refusal_numbers::position(why);
+    if position == 0 {
+        return end(number);
     }
+    end_at(number, position)
 }
 
 // Says why a file is refused, if it is.
-fn complain_opened(path: &[u8], opened: Opened) {
+fn complain_opened(path: &[u8], file: &[u8], edition: Edition, opened: Opened) {
     match opened {
         Opened::Entry(_, _) => {}
         Opened::Refused(why) => {
-            refuse_file(path, why);
+            refuse_file(path, file, edition, why);
         }
     }
 }
@@ -162,6 +129,6 @@ pub fn open(path: &[u8], file: &[u8], edition: Edition) -> Opened
     ensures { λ r. ⌜ saysOpened r ≡ opening edition (now (file .entry)) ⌝ }
 {
     let opened = read::open(file, edition);
-    complain_opened(path, opened);
+    complain_opened(path, file, edition, opened);
     opened
 }

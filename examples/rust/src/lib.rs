@@ -16,7 +16,7 @@
 mod raw;
 mod refusal;
 
-pub use refusal::Refusal;
+pub use refusal::{MergeRefusal, Refusal};
 
 /// The most bytes of a compiled file.
 const FILE_MOST: usize = 4096;
@@ -213,21 +213,27 @@ pub fn compile_first(text: &[u8], edition: Edition) -> Result<Vec<u8>, Refusal> 
 }
 
 /// Writes the first file over the second: its names, and its states where they are not absent.
-pub fn merge(first: &[u8], second: &[u8], edition: Edition) -> Result<Vec<u8>, Refusal> {
+pub fn merge(first: &[u8], second: &[u8], edition: Edition) -> Result<Vec<u8>, MergeRefusal> {
     let Edition { booleans, numbers, strings } = edition;
-    written(|buffer| unsafe {
-        raw::terminfo_merge(
-            first.as_ptr(),
-            first.len(),
-            second.as_ptr(),
-            second.len(),
-            booleans,
-            numbers,
-            strings,
-            buffer.as_mut_ptr(),
-            buffer.len(),
-        )
+    let mut which = 0;
+    written(|buffer| {
+        let answer = unsafe {
+            raw::terminfo_merge(
+                first.as_ptr(),
+                first.len(),
+                second.as_ptr(),
+                second.len(),
+                booleans,
+                numbers,
+                strings,
+                buffer.as_mut_ptr(),
+                buffer.len(),
+            )
+        };
+        which = raw::kind(answer);
+        answer
     })
+    .map_err(|refusal| MergeRefusal::of(which, refusal))
 }
 
 /// Writes a file that has exactly the edition's slots. States past the edition are not read, too few

@@ -64,6 +64,7 @@ pub fn given(answer: u64) -> Result<u64, Refusal> {
     }
 }
 
+/// The kind of a state or a capability, or which file a merge refuses.
 pub fn kind(answer: u64) -> u8 {
     (answer >> 48) as u8
 }

@@ -2,7 +2,8 @@
 
 use std::fmt;
 
-/// Why a call was refused. A place is counted in bytes from 0.
+/// Why a call was refused. A place is counted in bytes from 0; a file's 4 to 7 give the position of
+/// its first offending byte or slot.
 #[derive(Clone, Copy, Debug, PartialEq, Eq)]
 pub enum Refusal {
     /// 1: a file, a text or a string to expand has a wrong length.
@@ -11,14 +12,15 @@ pub enum Refusal {
     Magic,
     /// 3: a size in a file's header is out of range, the edition is too large, or states are too few.
     Header,
-    /// 4: the names hold a NUL, lack the closing one, or have a wrong length.
-    Names,
+    /// 4: the names hold a NUL, lack the closing one, or have a wrong length. `at` is 0 for the names
+    /// to write.
+    Names { at: usize },
     /// 5: a boolean byte is none of 0, 1 and 254, or the pad byte is not 0.
-    Boolean,
+    Boolean { at: usize },
     /// 6: a number slot is out of range.
-    Number,
+    Number { at: usize },
     /// 7: a string slot is no offset of a string in the table.
-    String,
+    String { at: usize },
     /// 8: there is too little room for so many bytes.
     Room { needed: usize },
     /// 9: the file to be written is longer than 4,096 bytes.
@@ -51,10 +53,10 @@ impl Refusal {
             1 => Refusal::Length,
             2 => Refusal::Magic,
             3 => Refusal::Header,
-            4 => Refusal::Names,
-            5 => Refusal::Boolean,
-            6 => Refusal::Number,
-            7 => Refusal::String,
+            4 => Refusal::Names { at: given },
+            5 => Refusal::Boolean { at: given },
+            6 => Refusal::Number { at: given },
+            7 => Refusal::String { at: given },
             8 => Refusal::Room { needed: given },
             9 => Refusal::Size,
             10 => Refusal::Malformed { at: given },
@@ -77,10 +79,10 @@ impl Refusal {
             Refusal::Length => 1,
             Refusal::Magic => 2,
             Refusal::Header => 3,
-            Refusal::Names => 4,
-            Refusal::Boolean => 5,
-            Refusal::Number => 6,
-            Refusal::String => 7,
+            Refusal::Names { .. } => 4,
+            Refusal::Boolean { .. } => 5,
+            Refusal::Number { .. } => 6,
+            Refusal::String { .. } => 7,
             Refusal::Room { .. } => 8,
             Refusal::Size => 9,
             Refusal::Malformed { .. } => 10,
@@ -96,10 +98,15 @@ impl Refusal {
         }
     }
 
-    /// The place that is given with refusals 10 to 16 and 18 to 20.
+    /// The place that is given with a file's refusals 4 to 7, and with 10 to 16 and 18 to 20.
     pub fn at(self) -> Option<usize> {
         match self {
-            Refusal::Malformed { at }
+            Refusal::Names { at: 0 } => None,
+            Refusal::Names { at }
+            | Refusal::Boolean { at }
+            | Refusal::Number { at }
+            | Refusal::String { at }
+            | Refusal::Malformed { at }
             | Refusal::Unknown { at }
             | Refusal::Limit { at }
             | Refusal::Expansion { at }
@@ -121,10 +128,10 @@ impl fmt::Display for Refusal {
             Refusal::Header => {
                 "a size in the header is out of range, the edition is too large, or states are too few"
             }
-            Refusal::Names => "wrong names",
-            Refusal::Boolean => "wrong boolean or pad byte",
-            Refusal::Number => "wrong number slot",
-            Refusal::String => "wrong string slot",
+            Refusal::Names { .. } => "wrong names",
+            Refusal::Boolean { .. } => "wrong boolean or pad byte",
+            Refusal::Number { .. } => "wrong number slot",
+            Refusal::String { .. } => "wrong string slot",
             Refusal::Room { .. } => "too little room",
             Refusal::Size => "the file would be longer than 4,096 bytes",
             Refusal::Malformed { .. } => "malformed text",
@@ -148,3 +155,47 @@ impl fmt::Display for Refusal {
 }
 
 impl std::error::Error for Refusal {}
+
+/// Why a merge was refused, and which of its two files it was.
+#[derive(Clone, Copy, Debug, PartialEq, Eq)]
+pub enum MergeRefusal {
+    /// The first file is refused: 1 to 7.
+    First(Refusal),
+    /// The first file is accepted, the second refused: 1 to 7.
+    Second(Refusal),
+    /// The edition is too large (3), or the merged file would be too long (9).
+    Neither(Refusal),
+}
+
+impl MergeRefusal {
+    pub(crate) fn of(which: u8, refusal: Refusal) -> MergeRefusal {
+        match which {
+            0 => MergeRefusal::Neither(refusal),
+            1 => MergeRefusal::First(refusal),
+            2 => MergeRefusal::Second(refusal),
+            _ => unreachable!("merging has no file {which}"),
+        }
+    }
+}
+
+impl From<MergeRefusal> for Refusal {
+    fn from(refused: MergeRefusal) -> Refusal {
+        match refused {
+            MergeRefusal::First(refusal)
+            | MergeRefusal::Second(refusal)
+            | MergeRefusal::Neither(refusal) => refusal,
+        }
+    }
+}
+
+impl fmt::Display for MergeRefusal {
+    fn fmt(&self, f: &mut fmt::Formatter<'_>) -> fmt::Result {
+        match self {
+            MergeRefusal::First(refusal) => write!(f, "the first file: {refusal}"),
+            MergeRefusal::Second(refusal) => write!(f, "the second file: {refusal}"),
+            MergeRefusal::Neither(refusal) => refusal.fmt(f),
+        }
+    }
+}
+
+impl std::error::Error for MergeRefusal {}

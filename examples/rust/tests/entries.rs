@@ -121,10 +121,12 @@ fn files_are_refused() -> Result<(), Refusal> {
     assert_eq!(opened(&file[..100]), Err(Refusal::Length));
     assert_eq!(with(0, 0), Err(Refusal::Magic));
     assert_eq!(with(2, 0), Err(Refusal::Header));
-    assert_eq!(with(12, 0), Err(Refusal::Names));
-    assert_eq!(with(44, 2), Err(Refusal::Boolean));
-    assert_eq!(with(67, 128), Err(Refusal::Number));
-    assert_eq!(with(83, 127), Err(Refusal::String));
+    assert_eq!(with(15, 0), Err(Refusal::Names { at: 15 }));
+    assert_eq!(with(43, b'x'), Err(Refusal::Names { at: 43 }));
+    assert_eq!(with(46, 2), Err(Refusal::Boolean { at: 46 }));
+    assert_eq!(with(65, 1), Err(Refusal::Boolean { at: 65 }));
+    assert_eq!(with(67, 128), Err(Refusal::Number { at: 66 }));
+    assert_eq!(with(83, 127), Err(Refusal::String { at: 82 }));
     let large = Edition { booleans: 65, ..Edition::FIRST };
     assert_eq!(Entry::open(&file, large).map(|_| ()), Err(Refusal::Header));
     Ok(())
@@ -158,7 +160,29 @@ fn a_cancelled_state_stays_cancelled_in_a_merge() -> Result<(), Refusal> {
     assert_eq!(state(&second)?, State::Present(b"\x1bM".to_vec()));
     assert_eq!(state(&merge(&first, &second, edition)?)?, State::Cancelled);
     assert_eq!(state(&merge(&second, &first, edition)?)?, State::Present(b"\x1bM".to_vec()));
-    assert_eq!(merge(&first, &[], edition), Err(Refusal::Length));
+    Ok(())
+}
+
+#[test]
+fn a_merge_says_which_file_is_refused() -> Result<(), Refusal> {
+    let sound = compile_first(ACT4, Edition::FIRST)?;
+    let mut bad = sound.clone();
+    bad[46] = 2;
+    let merged = |first, second| merge(first, second, Edition::FIRST).map(|_| ());
+    let refusal = Refusal::Boolean { at: 46 };
+    assert_eq!(merged(&bad, &sound), Err(MergeRefusal::First(refusal)));
+    assert_eq!(merged(&sound, &bad), Err(MergeRefusal::Second(refusal)));
+    assert_eq!(merged(&bad, &sound[1..]), Err(MergeRefusal::First(refusal)));
+    assert_eq!(merged(&sound[1..], &bad), Err(MergeRefusal::First(Refusal::Magic)));
+    assert_eq!(merged(&sound, &[]), Err(MergeRefusal::Second(Refusal::Length)));
+    let large = Edition { strings: 513, ..Edition::FIRST };
+    assert_eq!(merge(&bad, &bad, large), Err(MergeRefusal::Neither(Refusal::Header)));
+
+    let edition = Edition { booleans: 0, numbers: 0, strings: 6 };
+    let (long, none) = (State::Present(&[b'x'; 1000][..]), State::Absent);
+    let first = write(edition, b"a", &[], &[], &[long, long, long, none, none, none])?;
+    let second = write(edition, b"b", &[], &[], &[none, none, none, long, long, long])?;
+    assert_eq!(merge(&first, &second, edition), Err(MergeRefusal::Neither(Refusal::Size)));
     Ok(())
 }
 
@@ -216,7 +240,7 @@ fn what_is_written_is_read() -> Result<(), Refusal> {
             &[State::Present(string)],
         )
     };
-    assert_eq!(refused(b"", 0, b""), Err(Refusal::Names));
+    assert_eq!(refused(b"", 0, b""), Err(Refusal::Names { at: 0 }));
     assert_eq!(refused(b"a", 32_768, b""), Err(Refusal::Limit { at: 0 }));
     assert_eq!(refused(b"a", 0, b"\0"), Err(Refusal::Limit { at: 0 }));
     assert_eq!(write(edition, b"a", &booleans[1..], &numbers, &strings), Err(Refusal::Header));
@@ -260,4 +284,13 @@ fn a_refusal_says_what_it_is() {
         "too little room (refusal 8, 5 bytes are needed)"
     );
     assert_eq!((Refusal::Place.number(), Refusal::Place.at()), (17, None));
+    assert_eq!((Refusal::Names { at: 43 }.at(), Refusal::Names { at: 0 }.at()), (Some(43), None));
+    assert_eq!(
+        MergeRefusal::Second(Refusal::Number { at: 66 }).to_string(),
+        "the second file: wrong number slot (refusal 6, byte 66)"
+    );
+    assert_eq!(
+        MergeRefusal::Neither(Refusal::Size).to_string(),
+        "the file would be longer than 4,096 bytes (refusal 9)"
+    );
 }

@@ -17,7 +17,9 @@ same-beyond-requires : tie.Need-same-beyond-requires
 same-beyond-requires c κs = search needs
 
 returns : tie.Need-returns
-returns c = compared _ _ _ _ _ (c .before .before .before .before .same-edition .ensures) (c .before .before .before .same-tables .ensures) (c .before .before .same-beyond .ensures)
+returns c =
+    compared _ _ _ _ _ (c .before .before .before .before .before .before .same-edition .ensures)
+    (c .before .before .before .before .before .same-tables .ensures) (c .before .before .before .before .same-beyond .ensures)
 
 pub same-numbers-spec : {M : Type 1} → statement M
 same-numbers-spec =

@@ -3,6 +3,7 @@ use mathlib.Core.Path.{sym, ap, _∙_}
 use denote.Ref.{now}
 use Rattle.entry.specs.Says.{saysOpened}
 use Rattle.list_states.specs.Listing.{arrays}
+use Rattle.file_positions.proofs.Positions.{opened-fits}
 use Rattle.list_states.proofs.Laws.{list-refused}
 use borrow.Author.Needs.{needs}
 use Rattle.list_states.proofs.list.Statement.{statement}
@@ -44,7 +45,8 @@ returns c = search needs
 returns-2 : tie.Need-returns-2
 returns-2 c =
     let a = c .before .before .before .before .before .before .before .before .before .before .before .args in
-    (list-refused (a .edition) (now (a .file)) (arrays (now (a .boolean-kinds)) (now (a .number-kinds)) (now (a .number-values)) (now (a .string-kinds)) (now (a .string-starts)) (now (a .string-lengths))) _ _ (ap saysOpened (sym (c .before .why .given .1)) ∙ c .before .before .before .«open» .ensures), tt)
+    let o = ap saysOpened (sym (c .before .why .given .1)) ∙ c .before .before .before .«open» .ensures in
+    (list-refused (a .edition) (now (a .file)) (arrays (now (a .boolean-kinds)) (now (a .number-kinds)) (now (a .number-values)) (now (a .string-kinds)) (now (a .string-starts)) (now (a .string-lengths))) _ _ o, opened-fits (a .edition) (now (a .file)) _ _ (sym o))
 
 pub list-spec : {M : Type 1} → statement M
 list-spec =

@@ -1,6 +1,5 @@
 -- `terminfo_c::terminfo_ask` meets its contract: refused as a whole, or eight answers stored.
 use denote.Ref.{now}
-use mathlib.Core.List.{[]}
 use mathlib.Core.Path.{sym, ap, _∙_}
 use Rattle.entry.specs.Says.{saysOpened}
 use Rattle.terminfo_c.proofs.Laws.{ask-done, ask-refused}
@@ -31,7 +30,7 @@ returns c =
     (p .0, c .asked-numbers .ensures ∙ p .1)
 
 returns-2 : tie.Need-returns-2
-returns-2 c = ask-refused _ _ _ _ _ _ [] (ap saysOpened (sym (c .enum-told2 .given .1)) ∙ c .before .before .«open» .ensures)
+returns-2 c = ask-refused _ _ _ _ _ _ _ (ap saysOpened (sym (c .enum-told2 .given .1)) ∙ c .before .before .«open» .ensures)
 
 pub terminfo-ask-spec : {M : Type 1} → statement M
 terminfo-ask-spec =

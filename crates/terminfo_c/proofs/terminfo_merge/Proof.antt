@@ -1,7 +1,7 @@
 -- `terminfo_c::terminfo_merge` meets its contract: what merging answers, as a number.
 use mathlib.Core.Path.{ap, _∙_}
-use Rattle.c_numbers.specs.Numbers.{numbered}
-use Rattle.terminfo_c.proofs.Laws.{merged-within, numbered-length}
+use Rattle.c_numbers.specs.Numbers.{mergedNumber}
+use Rattle.terminfo_c.proofs.Laws.{merged-within, merged-length}
 use borrow.Author.Needs.{needs}
 use Rattle.terminfo_c.proofs.terminfo_merge.Statement.{statement}
 use Rattle.terminfo_c.proofs.terminfo_merge.Tie as tie
@@ -18,7 +18,7 @@ same-length c = search needs
 returns : tie.Need-returns
 returns c =
     record {
-      number = c .merged-number .ensures ∙ ap (numbered (λ n. n)) (c .before .before .before .merge .ensures .0) ∙ numbered-length _;
+      number = c .merged-number .ensures ∙ ap (mergedNumber (λ n. n)) (c .before .before .before .merge .ensures .0) ∙ merged-length _;
       buffer = c .before .before .before .merge .ensures .1;
     }
 

@@ -1,8 +1,8 @@
 -- `terminfo_c::terminfo_open` meets its contract: what opening answers, as a number and an array.
 use denote.Ref.{now}
-use Prim.Native.Nat.{ℕ, _*_, _^_}
 use mathlib.Core.Path.{sym, ap, _∙_}
 use Rattle.entry.specs.Says.{saysOpened}
+use Rattle.file_positions.proofs.Positions.{opened-fits}
 use Rattle.terminfo_c.proofs.Laws.{open-done, open-refused}
 use borrow.Author.Needs.{needs}
 use Rattle.terminfo_c.proofs.terminfo_open.Statement.{statement}
@@ -20,11 +20,9 @@ opening-array-requires c κs = search needs
 enum-known-why : tie.Need-enum-known-why
 enum-known-why c = search needs
 
-of-file-requires : tie.Need-of-file-requires
-of-file-requires c κs = search needs
-
-top-requires : tie.Need-top-requires
-top-requires c κs = search needs
+file-number-requires : tie.Need-file-number-requires
+file-number-requires c κs =
+    opened-fits _ _ _ _ (sym (ap saysOpened (sym (c .before .why .given .1)) ∙ c .before .before .before .«open» .ensures))
 
 returns : tie.Need-returns
 returns c =
@@ -34,10 +32,9 @@ returns c =
 
 returns-2 : tie.Need-returns-2
 returns-2 c =
-    let p = open-refused _ (now (c .before .before .before .before .before .before .before .args .tables)) _
-    (ap saysOpened (sym (c .before .before .before .why .given .1))
-    ∙ c .before .before .before .before .before .«open» .ensures) in
-    (c .top .ensures ∙ ap (λ (n : ℕ). n * 2 ^ 56) (c .before .of-file .ensures) ∙ p .0, p .1)
+    let p = open-refused _ (now (c .before .before .before .before .before .before .args .tables)) _ _
+    (ap saysOpened (sym (c .before .before .why .given .1)) ∙ c .before .before .before .before .«open» .ensures) in
+    (c .file-number .ensures ∙ p .0, p .1)
 
 pub terminfo-open-spec : {M : Type 1} → statement M
 terminfo-open-spec =
@@ -47,7 +44,6 @@ terminfo-open-spec =
     enum-known-t
     opening-array-requires
     enum-known-why
-    of-file-requires
-    top-requires
+    file-number-requires
     returns
     returns-2)

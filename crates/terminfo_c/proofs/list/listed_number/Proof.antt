@@ -2,7 +2,7 @@
 use mathlib.Core.Path.{subst}
 use native.Mathlib.Omega.{arith}
 use Rattle.c_numbers.specs.Numbers.{numbered}
-use Rattle.list_states.specs.Listing.{CountFits}
+use Rattle.list_states.specs.Listing.{ValueFits}
 use borrow.Author.Needs.{needs}
 use Rattle.terminfo_c.proofs.list.listed_number.Statement.{statement}
 use Rattle.terminfo_c.proofs.list.listed_number.Tie as tie
@@ -13,11 +13,8 @@ enum-told c = search needs
 enum-known-l : tie.Need-enum-known-l
 enum-known-l c = search needs
 
-of-file-requires : tie.Need-of-file-requires
-of-file-requires c κs = search needs
-
-top-requires : tie.Need-top-requires
-top-requires c κs = search needs
+file-number-requires : tie.Need-file-number-requires
+file-number-requires c κs = subst ValueFits (c .before .l .given .1) (c .before .before .before .pre)
 
 enum-known-l-2 : tie.Need-enum-known-l-2
 enum-known-l-2 c = search needs
@@ -26,7 +23,7 @@ mul-result : tie.Need-mul-result
 mul-result c = search needs
 
 add-result : tie.Need-add-result
-add-result c = let h = subst CountFits (c .before .l2 .given .1) (c .before .before .before .pre) in omega arith
+add-result c = let h = subst ValueFits (c .before .l2 .given .1) (c .before .before .before .pre) in omega arith
 
 returns : tie.Need-returns
 unfolding numbered
@@ -34,7 +31,7 @@ returns c = rw (c .enum-told .given .1)
 
 returns-2 : tie.Need-returns-2
 unfolding numbered
-returns-2 c = rw (c .before .before .before .l .given .1, c .top .ensures, c .before .of-file .ensures) (omega arith)
+returns-2 c = rw (c .before .before .l .given .1, c .file-number .ensures)
 
 returns-3 : tie.Need-returns-3
 unfolding numbered
@@ -46,8 +43,7 @@ listed-number-spec =
     (tie.spec
     enum-told
     enum-known-l
-    of-file-requires
-    top-requires
+    file-number-requires
     enum-known-l-2
     mul-result
     add-result

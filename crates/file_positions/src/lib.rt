@@ -1,0 +1,1 @@
+// Where a refused file is bad. No code: see specs/.
