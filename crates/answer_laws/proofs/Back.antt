@@ -38,6 +38,9 @@ use Rattle.entry_numbers.specs.declared.BeyondEdition.the-variants as Y
 use Rattle.entry_numbers.specs.declared.EntryRefusal.{EntryRefusal}
 use Rattle.entry_numbers.specs.declared.EntryRefusal.the-variants as Q
 use Rattle.entry_numbers.specs.Entries.{saysBeyond, saysRefusal}
+use Rattle.list_states.specs.declared.Listed.{Listed}
+use Rattle.list_states.specs.declared.Listed.the-variants as L
+use Rattle.list_states.specs.Listing.{saysListed}
 use Rattle.names.specs.declared.Name.{Name}
 use Rattle.names.specs.declared.Name.the-variants as A
 use Rattle.names.specs.Naming.{saysName}
@@ -170,6 +173,21 @@ refusal-back (Q.File (R.Boolean at)) = refl
 refusal-back (Q.File (R.Number at)) = refl
 refusal-back (Q.File (R.Slot at)) = refl
 refusal-back Q.NotOpened = refl
+
+abbrev pub listed : Answer (Unit {0}) → Listed
+listed (gives x) = L.Done
+listed (refused n v) = if eqb n 8 then L.Room (getD v 0 0) else L.Refused (file n (getD v 0 0))
+
+pub listed-back : (r : Listed) → listed (plain (saysListed r)) ≡ r
+listed-back L.Done = refl
+listed-back (L.Refused R.Length) = refl
+listed-back (L.Refused R.Magic) = refl
+listed-back (L.Refused R.Counts) = refl
+listed-back (L.Refused (R.Names at)) = refl
+listed-back (L.Refused (R.Boolean at)) = refl
+listed-back (L.Refused (R.Number at)) = refl
+listed-back (L.Refused (R.Slot at)) = refl
+listed-back (L.Room n) = refl
 
 abbrev pub written : Answer ℕ → Written
 written (gives n) = W.File n

@@ -9,6 +9,7 @@ use Rattle.names.specs.Finding.{saysFound}
 use Rattle.text.specs.Compiling.{textNumber, saysCompiled}
 use Rattle.expansion.specs.Expanding.{saysExpansion}
 use Rattle.entry_numbers.specs.Entries.{saysBeyond, saysRefusal}
+use Rattle.list_states.specs.Listing.{saysListed}
 use Rattle.answer_laws.specs.Distinct.{Injective, Distinct}
 use Rattle.answer_laws.proofs.Back as back
 
@@ -31,6 +32,7 @@ distinct = record {
   string = by-back saysString back.string back.string-back;
   beyond = by-back saysBeyond back.beyond back.beyond-back;
   refusal = by-back saysRefusal back.refusal back.refusal-back;
+  listed = by-back saysListed back.listed back.listed-back;
   written = by-back saysWritten back.written back.written-back;
   merged = by-inverse saysMerged back.merged back.merged-back;
   compiled = by-back saysCompiled back.compiled back.compiled-back;

@@ -37,6 +37,9 @@ use Rattle.entry.specs.State.{State, absent, cancelled, present}
 use Rattle.entry.specs.Limits.{fileMost}
 use Rattle.entry.specs.Says.{fileNumber, fileValues, filePosition, saysOpened, saysNames, saysBoolean, saysNumber}
 use Rattle.entry.specs.Says.{saysString, saysWritten, saysMerged}
+use Rattle.list_states.specs.declared.Listed.{Listed}
+use Rattle.list_states.specs.declared.Listed.the-variants as L
+use Rattle.list_states.specs.Listing.{saysListed, ValueFits}
 use Rattle.names.specs.declared.Name.{Name}
 use Rattle.names.specs.declared.Name.the-variants as A
 use Rattle.names.specs.Names.{ascii, parted, named, booleanNames, numberNames, stringNames, namesOf}
@@ -54,7 +57,7 @@ use Rattle.building_laws.specs.Values.{Bounded}
 use Rattle.expansion.specs.declared.Expansion.{Expansion}
 use Rattle.expansion.specs.declared.Expansion.the-variants as E
 use Rattle.expansion.specs.Expanding.{Counts, saysExpansion}
-use Rattle.c_numbers.specs.Numbers.{numbered, mergedNumber, none, stateCode, kinded, partCode, kindCode, capabilityCode}
+use Rattle.c_numbers.specs.Numbers.{numbered, mergingNumber, none, stateCode, kinded, partCode, kindCode, capabilityCode}
 use Rattle.c_numbers.specs.Numbers.{openingArray, expansionNumber}
 use Rattle.c_numbers.specs.Numbers.{PartWithin, NamesWithin, StringWithin, WrittenWithin, FileWithin, MergedWithin}
 use Rattle.c_numbers.specs.Numbers.{PlaceWithin, FoundWithin}
@@ -460,8 +463,8 @@ abbrev folded : Answer ℕ → Answer ℕ
 folded (refused n v) = refused n ((if leb n 7 then getD v 0 0 * 2 ^ 48 + getD v 1 0 else getD v 0 0) ∷ [])
 folded (gives n) = gives n
 
-folded-number : (a : Answer ℕ) → mergedNumber (λ n. n) a ≡ numbered (λ n. n) (folded a)
-unfolding mergedNumber numbered
+folded-number : (a : Answer ℕ) → mergingNumber (λ n. n) a ≡ numbered (λ n. n) (folded a)
+unfolding mergingNumber numbered
 folded-number (refused n v) = refl
 folded-number (gives n) = refl
 
@@ -515,7 +518,7 @@ merged-back (G.Second r) h =
 merged-back G.Size h = refl
 merged-back (G.Room n) h = refl
 
-merged-tells : Tells saysMerged MergedWithin (mergedNumber (λ n. n))
+merged-tells : Tells saysMerged MergedWithin (mergingNumber (λ n. n))
 merged-tells = record {
   byte = record {
     top = λ r w. rw (folded-number (saysMerged r)) (as-folded .byte .top r w ∙ folded-same (saysMerged r));
@@ -535,20 +538,20 @@ merged-tells = record {
 
 -- a file's refusal as a number
 file-number : (k : ℕ) (r : FileRefusal)
-    → mergedNumber (λ n. n) (refused (fileNumber r) (k ∷ fileValues r))
+    → mergingNumber (λ n. n) (refused (fileNumber r) (k ∷ fileValues r))
     ≡ fileNumber r * 2 ^ 56 + (k * 2 ^ 48 + filePosition r)
-unfolding mergedNumber
+unfolding mergingNumber
 file-number k r = rw (le-leb (fileNumber r) 7 (file-most r))
 
-file-byte : FileByte (mergedNumber (λ n. n))
-unfolding mergedNumber
+file-byte : FileByte (mergingNumber (λ n. n))
+unfolding mergingNumber
 file-byte = record {
   which = which;
   first = λ r h. rw (file-number 1 r) (omega arith);
   second = λ r h. rw (file-number 2 r) (omega arith);
 }
   where
-    which : (r : Merged) → MergedWithin r → mergedNumber (λ n. n) (saysMerged r) / 2 ^ 48 % 256 ≡ whichOf r
+    which : (r : Merged) → MergedWithin r → mergingNumber (λ n. n) (saysMerged r) / 2 ^ 48 % 256 ≡ whichOf r
     which (G.File n) h = omega arith
     which G.Edition h = refl
     which (G.First r) h = rw (file-number 1 r) (omega arith)
@@ -581,6 +584,15 @@ array-tells o p e = λ i. record {
   where
     at : (k : ℕ) → getD (openingArray o) k 0 ≡ getD (openingArray p) k 0
     at k = ap (λ (a : List ℕ). getD a k 0) e
+
+opened-position : (r : FileRefusal) → FileWithin r → numbered none (saysOpened (O.Refused r)) % 2 ^ 48 ≡ filePosition r
+unfolding numbered
+opened-position r h = omega arith
+
+listed-fits : (r : Listed) → ValueFits r → Fits Any (saysListed r)
+listed-fits L.Done h = tt
+listed-fits (L.Refused r) h = (file-some r, omega arith)
+listed-fits (L.Room n) h = omega arith
 
 -- ---- states are below the kind of a refusal
 
@@ -633,6 +645,10 @@ numbers =
       expanded = expanded;
       expansion = expansion-tells;
       opened = top-byte saysOpened OpenedWithin Any none opened-fits (λ x h. omega arith);
+      position = opened-position;
+      list =
+          telling saysListed ValueFits Any none listed-fits (λ x h. omega arith) (λ x y h k e. refl)
+          back.listed (λ r _. back.listed-back r);
       array = array-tells;
       refusal = opened-tells;
     }

@@ -9,6 +9,7 @@ use Rattle.names.specs.Finding.{saysFound}
 use Rattle.text.specs.Compiling.{textNumber, saysCompiled}
 use Rattle.expansion.specs.Expanding.{saysExpansion}
 use Rattle.entry_numbers.specs.Entries.{saysBeyond, saysRefusal}
+use Rattle.list_states.specs.Listing.{saysListed}
 
 abbrev pub Injective : {A B : Type 0} → (A → B) → Type 0
 Injective {A} f = (x y : A) → f x ≡ f y → x ≡ y
@@ -25,6 +26,7 @@ pub record Distinct : Type 0 where
   pub string : Injective saysString
   pub beyond : Injective saysBeyond
   pub refusal : Injective saysRefusal
+  pub listed : Injective saysListed
   pub written : Injective saysWritten
   pub merged : Injective saysMerged
   pub compiled : Injective saysCompiled

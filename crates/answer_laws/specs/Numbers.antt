@@ -17,6 +17,7 @@ use Rattle.entry.specs.declared.NumberState.{NumberState}
 use Rattle.entry.specs.declared.NumberState.the-variants as N
 use Rattle.entry.specs.Says.{filePosition}
 use Rattle.entry.specs.Says.{saysOpened, saysNames, saysBoolean, saysNumber, saysString, saysWritten, saysMerged}
+use Rattle.list_states.specs.Listing.{saysListed, ValueFits}
 use Rattle.names.specs.declared.Name.{Name}
 use Rattle.names.specs.declared.Name.the-variants as A
 use Rattle.names.specs.Naming.{naming, saysName}
@@ -26,7 +27,7 @@ use Rattle.building_laws.specs.Values.{Bounded}
 use Rattle.expansion.specs.declared.Expansion.{Expansion}
 use Rattle.expansion.specs.declared.Expansion.the-variants as E
 use Rattle.expansion.specs.Expanding.{saysExpansion}
-use Rattle.c_numbers.specs.Numbers.{numbered, mergedNumber, none, partCode, booleanNumber, numberNumber, stringNumber}
+use Rattle.c_numbers.specs.Numbers.{numbered, mergingNumber, none, partCode, booleanNumber, numberNumber, stringNumber}
 use Rattle.c_numbers.specs.Numbers.{openingArray, expansionNumber, capabilityNumber}
 use Rattle.c_numbers.specs.Numbers.{NamesWithin, StringWithin, WrittenWithin, FileWithin, MergedWithin, FoundWithin}
 use Rattle.answer_laws.specs.Distinct.{Injective}
@@ -43,7 +44,7 @@ NumberWithin N.Cancelled = Unit {0}
 NumberWithin (N.Present n) = n < 2 ^ 32
 NumberWithin N.Refused = Unit {0}
 
--- a refused file's position lies in it
+-- a refused file's position is below the most bytes of a file
 abbrev pub OpenedWithin : Opened → Type 0
 OpenedWithin (O.Entry t b) = Unit {0}
 OpenedWithin (O.Refused r) = FileWithin r
@@ -105,8 +106,8 @@ pub record Numbers : Type 0 where
   pub found : Tells saysFound FoundWithin capabilityNumber
   pub foundKind : KindByte saysFound FoundWithin capabilityNumber
   pub written : Tells saysWritten WrittenWithin (numbered (λ n. n))
-  pub merged : Tells saysMerged MergedWithin (mergedNumber (λ n. n))
-  pub mergedFile : FileByte (mergedNumber (λ n. n))
+  pub merged : Tells saysMerged MergedWithin (mergingNumber (λ n. n))
+  pub mergedFile : FileByte (mergingNumber (λ n. n))
   pub compiled : Tells saysCompiled (λ r. Bounded (saysCompiled r)) (numbered (λ n. n))
   pub name : Tells saysName NameWithin (numbered (λ w. w))
   pub listed : (k : Kind) (p : Place) → isGiven (naming k p) ≡ true → numbered (λ w. w) (naming k p) < 2 ^ 56
@@ -115,6 +116,9 @@ pub record Numbers : Type 0 where
   pub expansion : Tells saysExpansion ExpansionWithin expansionNumber
   -- opening answers 0 and fills an array, which tells what it gives; a refusal's number tells the refusal
   pub opened : TopByte saysOpened OpenedWithin (numbered none)
+  -- a refused file's position stands in the bits below, of opening and of listing
+  pub position : (r : FileRefusal) → FileWithin r → numbered none (saysOpened (O.Refused r)) % 2 ^ 48 ≡ filePosition r
+  pub list : Tells saysListed ValueFits (numbered none)
   pub array : Injective openingArray
   pub refusal : (r s : Opened) → OpenedWithin r → OpenedWithin s → isGiven (saysOpened r) ≡ false
       → numbered none (saysOpened r) ≡ numbered none (saysOpened s) → r ≡ s

@@ -6,7 +6,7 @@ ghost use Prim.Native.Nat.{_-_, _≤_};
 ghost use lib.ListN.{length};
 ghost use Rattle.entry.specs.Layout.{sizesOf};
 ghost use Rattle.file_tables.specs.Framed.{Shorts};
-ghost use Rattle.bad_slots.specs.Slots.{booleanSlot, slotOf, slotAt, holdsOffset};
+ghost use Rattle.bad_slots.specs.Slots.{booleanOrPad, badSlotOf, badSlotAt, holdsOffset};
 use edition::Kind;
 use edition::Place;
 use entry::FileRefusal;
@@ -24,7 +24,7 @@ pub enum BadSlot {
 
 // The byte of a boolean, or the pad's behind them.
 fn boolean_slot(s: Sizes, index: usize) -> BadSlot
-    ensures { λ r. ⌜ r ≡ booleanSlot s index ⌝ }
+    ensures { λ r. ⌜ r ≡ booleanOrPad s index ⌝ }
 {
     if index < s.booleans {
         return BadSlot::Slot(Kind::Boolean, Place(index));
@@ -34,7 +34,7 @@ fn boolean_slot(s: Sizes, index: usize) -> BadSlot
 
 fn slot_of(s: Sizes, why: FileRefusal) -> BadSlot
     requires { ⌜ Shorts s ⌝ }
-    ensures { λ r. ⌜ r ≡ slotOf s why ⌝ }
+    ensures { λ r. ⌜ r ≡ badSlotOf s why ⌝ }
 {
     let t = read::tables_for(s);
     match why {
@@ -56,7 +56,7 @@ fn slot_of(s: Sizes, why: FileRefusal) -> BadSlot
 
 // What stands at the position of a refusal of the file.
 pub fn slot_at(file: &[u8], why: FileRefusal) -> BadSlot
-    ensures { λ r. ⌜ r ≡ slotAt (now (file .entry)) why ⌝ }
+    ensures { λ r. ⌜ r ≡ badSlotAt (now (file .entry)) why ⌝ }
 {
     if file.len() < HEADER_SIZE {
         return BadSlot::None;

@@ -10,7 +10,7 @@ use Rattle.entry.specs.declared.FileRefusal.{FileRefusal}
 use Rattle.entry.specs.declared.FileRefusal.the-variants as R
 use Rattle.entry.specs.declared.Merged.the-variants as G
 use Rattle.entry.specs.Says.{fileNumber, fileValues, filePosition, saysMerged}
-use Rattle.c_numbers.specs.Numbers.{mergedNumber, FileWithin}
+use Rattle.c_numbers.specs.Numbers.{mergingNumber, FileWithin}
 
 pub file-most : (r : FileRefusal) → fileNumber r ≤ 7
 file-most R.Length = omega arith
@@ -23,14 +23,14 @@ file-most (R.Slot at) = omega arith
 
 -- which file stands in the byte below the number, the position below it
 module _ (r : FileRefusal) (n : ℕ) (e : n ≡ fileNumber r * 2 ^ 56 + filePosition r) where
-  merged-file : (k : ℕ) → n + k * 2 ^ 48 ≡ mergedNumber (λ m. m) (refused (fileNumber r) (k ∷ fileValues r))
-  unfolding mergedNumber
+  merged-file : (k : ℕ) → n + k * 2 ^ 48 ≡ mergingNumber (λ m. m) (refused (fileNumber r) (k ∷ fileValues r))
+  unfolding mergingNumber
   merged-file k = rw (le-leb (fileNumber r) 7 (file-most r)) (omega arith)
 
-  pub merged-first : n + 2 ^ 48 ≡ mergedNumber (λ m. m) (saysMerged (G.First r))
+  pub merged-first : n + 2 ^ 48 ≡ mergingNumber (λ m. m) (saysMerged (G.First r))
   merged-first = let p = merged-file 1 in omega arith
 
-  pub merged-second : n + 2 * 2 ^ 48 ≡ mergedNumber (λ m. m) (saysMerged (G.Second r))
+  pub merged-second : n + 2 * 2 ^ 48 ≡ mergingNumber (λ m. m) (saysMerged (G.Second r))
   merged-second = merged-file 2
 
   -- the number has 64 bits

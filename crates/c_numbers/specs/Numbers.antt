@@ -34,10 +34,10 @@ numbered code (refused n v) = n * 2 ^ 56 + getD v 0 0
 numbered code (gives x) = code x
 
 -- merging: below a file's refusal, 1 to 7, which file in the byte below the top one, and the position below it
-unfoldable pub mergedNumber : {A : Type 0} → (A → ℕ) → Answer A → ℕ
-mergedNumber code (refused n v) =
+unfoldable pub mergingNumber : {A : Type 0} → (A → ℕ) → Answer A → ℕ
+mergingNumber code (refused n v) =
     n * 2 ^ 56 + (if leb n 7 then getD v 0 0 * 2 ^ 48 + getD v 1 0 else getD v 0 0)
-mergedNumber code (gives x) = code x
+mergingNumber code (gives x) = code x
 
 -- a call that gives nothing in its number
 abbrev pub none : {A : Type 0} → A → ℕ
@@ -122,7 +122,7 @@ WrittenWithin W.Limit = Unit {0}
 WrittenWithin W.Size = Unit {0}
 WrittenWithin (W.Room n) = n ≤ fileMost
 
--- a position lies in a file
+-- a position is below the most bytes of a file
 abbrev pub FileWithin : FileRefusal → Type 0
 FileWithin r = filePosition r < fileMost
 

@@ -10,7 +10,7 @@ ghost use Rattle.names.specs.Naming.{saysName};
 ghost use Rattle.text.specs.Compiling.{saysCompiled};
 ghost use Rattle.building_laws.specs.Values.{Bounded};
 ghost use Rattle.expansion.specs.Expanding.{saysExpansion};
-ghost use Rattle.c_numbers.specs.Numbers.{numbered, mergedNumber, partCode, refusedNumber};
+ghost use Rattle.c_numbers.specs.Numbers.{numbered, mergingNumber, partCode, refusedNumber};
 ghost use Rattle.c_numbers.specs.Numbers.{booleanNumber, numberNumber, stringNumber};
 ghost use Rattle.c_numbers.specs.Numbers.{openingArray, expansionNumber, capabilityNumber};
 ghost use Rattle.c_numbers.specs.Numbers.{NamesWithin, StringWithin, WrittenWithin, MergedWithin, FoundWithin};
@@ -32,7 +32,7 @@ use text::Compiled;
 // A refusal's number stands in the top byte.
 pub const TOP: u64 = 72057594037927936;
 
-// A state's kind stands in the byte below it.
+// A state's kind, or the file that a merge refuses, stands in the byte below it.
 const KIND: u64 = 281474976710656;
 
 // A part's start stands above its length.
@@ -140,7 +140,7 @@ pub fn file_number(why: FileRefusal) -> u64
 
 pub fn merged_number(m: Merged) -> u64
     requires { ⌜ MergedWithin m ⌝ }
-    ensures { λ r. ⌜ r ≡ mergedNumber (λ n. n) (saysMerged m) ⌝ }
+    ensures { λ r. ⌜ r ≡ mergingNumber (λ n. n) (saysMerged m) ⌝ }
 {
     let refusal = top(refusal_numbers::of_merged(m));
     match m {

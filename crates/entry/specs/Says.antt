@@ -27,6 +27,7 @@ use Rattle.entry.specs.declared.Merged.the-variants as G
 use Rattle.entry.specs.State.{State, absent, cancelled, present}
 use Rattle.base.specs.Answer.{Answer, refused, gives}
 use Rattle.entry.specs.Asking.{Opening}
+use Rattle.entry.specs.Merging.{ofFile}
 
 -- a file's refusal, and the position that it gives
 abbrev pub fileNumber : FileRefusal → ℕ
@@ -51,13 +52,16 @@ fileValues (R.Slot at) = at ∷ []
 abbrev pub filePosition : FileRefusal → ℕ
 filePosition r = getD (fileValues r) 0 0
 
+abbrev pub refusedFile : {A : Type 0} → FileRefusal → Answer A
+refusedFile r = refused (fileNumber r) (fileValues r)
+
 abbrev pub saysJudged : Judged → Answer Sizes
 saysJudged (J.Accepted s) = gives s
-saysJudged (J.Refused r) = refused (fileNumber r) (fileValues r)
+saysJudged (J.Refused r) = refusedFile r
 
 abbrev pub saysOpened : Opened → Answer Opening
 saysOpened (O.Entry t b) = gives (record { tables = t; beyond = b })
-saysOpened (O.Refused r) = refused (fileNumber r) (fileValues r)
+saysOpened (O.Refused r) = refusedFile r
 
 abbrev pub saysNames : Names → Answer Part
 saysNames (M.At p) = gives p
@@ -95,7 +99,7 @@ saysWritten (W.Room n) = refused 8 (n ∷ [])
 abbrev pub saysMerged : Merged → Answer ℕ
 saysMerged (G.File n) = gives n
 saysMerged G.Edition = refused 3 []
-saysMerged (G.First r) = refused (fileNumber r) (1 ∷ fileValues r)
-saysMerged (G.Second r) = refused (fileNumber r) (2 ∷ fileValues r)
+saysMerged (G.First r) = ofFile 1 (refusedFile r)
+saysMerged (G.Second r) = ofFile 2 (refusedFile r)
 saysMerged G.Size = refused 9 []
 saysMerged (G.Room n) = refused 8 (n ∷ [])

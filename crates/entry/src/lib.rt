@@ -178,9 +178,9 @@ pub enum Merged {
     File(usize),
     // 3: the edition is too large
     Edition,
-    // 1 to 7 of the first file, giving 1 and then the position
+    // 1 to 7 of the first file, with 1 before the position that 4 to 7 give
     First(FileRefusal),
-    // 1 to 7 of the second file, giving 2 and then the position
+    // 1 to 7 of the second file, with 2 before it
     Second(FileRefusal),
     // 9: the file would be longer than 4,096 bytes
     Size,

@@ -244,9 +244,9 @@ opening-gives f n h = by-test (same n (opened (n .edition) f)) refl h
 
 -- a refusal's number and position determine what it gives
 values-same : (f : List ℕ) (n : ℕ) (v w : List ℕ) → Values f n v → Values f n w → getD v 0 0 ≡ getD w 0 0 → v ≡ w
-values-same f n v w (Values.none a p) (Values.none b q) e = p ∙ sym q
-values-same f n v w (Values.none a p) (Values.position i b c q k) e = absurd (let z : ⊥ = omega arith in z)
-values-same f n v w (Values.position i a c p k) (Values.none b q) e = absurd (let z : ⊥ = omega arith in z)
+values-same f n v w (Values.none a a′ p) (Values.none b b′ q) e = p ∙ sym q
+values-same f n v w (Values.none a a′ p) (Values.position i b c q k) e = absurd (let z : ⊥ = omega arith in z)
+values-same f n v w (Values.position i a c p k) (Values.none b b′ q) e = absurd (let z : ⊥ = omega arith in z)
 values-same f n v w (Values.position i a c p k) (Values.position j b d q l) e =
     let z : i ≡ j = sym (ap (λ (x : List ℕ). getD x 0 0) p) ∙ e ∙ ap (λ (x : List ℕ). getD x 0 0) q in
     p ∙ ap (λ (x : ℕ). x ∷ []) z ∙ sym q
@@ -273,7 +273,7 @@ module _ (e : Edition) (f : List ℕ) (k : ℕ) (v : List ℕ) (q : opening e f 
       λ i. refused (sym z i) (sym (none (positions .opens e f k v q) z) i)
     where
       none : Values f k v → k ≡ 3 → v ≡ []
-      none (Values.none l p) z = p
+      none (Values.none l l′ p) z = p
       none (Values.position i a b p t) z = absurd (let y : ⊥ = omega arith in y)
 
   refused-again : entryRefusal f M ≡ refused k v
@@ -298,3 +298,15 @@ opened-refusal e f = by-answer (opening e f) refl
     by-answer : (a : Answer Opening) → opening e f ≡ a → entryRefusal f (numbersOf e a) ≡ refusalOf a
     by-answer (gives o) q = rw (q, same-refl (numbersOf e (gives o)))
     by-answer (refused k v) q = refused-again e f k v q
+
+-- an entry that opening gives in no edition says 17
+pub refusal-17 : (f : List ℕ) (n : EntryNumbers) → fromOpening f n ≡ false → entryRefusal f n ≡ refused 17 []
+unfolding entryRefusal fromOpening
+refusal-17 f n h =
+    by-tests (same n (opened (n .edition) f)) (same n (numbersOf (n .edition) (refused 3 []))) h
+  where
+    by-tests : (t u : Bool) → (t || u) ≡ false
+        → (if t then refusalOf (opening (n .edition) f) else if u then refused 3 [] else refused 17 []) ≡ refused 17 []
+    by-tests true u q = true-false q
+    by-tests false true q = true-false q
+    by-tests false false q = refl

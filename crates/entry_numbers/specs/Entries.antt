@@ -17,7 +17,7 @@ use Rattle.base.specs.Answer.{Answer, refused, gives}
 use Rattle.entry.specs.Layout.{sizesOf, beyondOf}
 use Rattle.entry.specs.Asking.{Opening, opening, asking, askingNames, askingBoolean, askingNumber, askingString}
 use Rattle.entry_numbers.specs.declared.EntryNumbers.{EntryNumbers}
-use Rattle.entry.specs.Says.{fileNumber, fileValues}
+use Rattle.entry.specs.Says.{refusedFile}
 use Rattle.entry_numbers.specs.declared.EntryRefusal.{EntryRefusal}
 use Rattle.entry_numbers.specs.declared.EntryRefusal.the-variants as E
 use Rattle.entry_numbers.specs.declared.BeyondEdition.{BeyondEdition}
@@ -89,7 +89,7 @@ entryRefusal f n =
 
 abbrev pub saysRefusal : EntryRefusal → Answer (Unit {0})
 saysRefusal E.Accepted = gives tt
-saysRefusal (E.File r) = refused (fileNumber r) (fileValues r)
+saysRefusal (E.File r) = refusedFile r
 saysRefusal E.NotOpened = refused 17 []
 
 -- "If callers can make an entry without opening, one that opening wouldn't give for its bytes is answered 17 too"

@@ -3,6 +3,7 @@
 use mathlib.Core.Path.{_≡_, refl, sym, ap, _∙_}
 use mathlib.Core.Bool.{Bool, true, false, _&&_, _||_, not}
 use mathlib.Core.List.{List, [], _∷_}
+use mathlib.Core.Logic.{inl, inr}
 use Prim.Native.Nat.{ℕ, _+_, _-_, _*_, _≤_, _<_}
 use native.Mathlib.Omega.{arith}
 use lib.Dec.{eqb, ltb, leb}
@@ -44,7 +45,7 @@ scan-bad : (ok : ℕ → Bool) (n : ℕ) → scan ok 0 n < n → ok (scan ok 0 n
 scan-bad ok n h = scan-fails ok 0 n (omega arith)
 
 scanned : (f : List ℕ) (t : Table) → every (t .ok) (t .count) ≡ false
-    → ((i : ℕ) → i < t .count → t .start + t .width * i < length f)
+    → ((i : ℕ) → i < t .count → t .start + t .width * i + t .width ≤ length f)
     → FirstBad f t (t .start + t .width * scan (t .ok) 0 (t .count))
 scanned f t h l =
     record {
@@ -166,9 +167,9 @@ refusing-at P a n v e h = rw e at h
 reading-values : (f : List ℕ) → Refusing (Values f) (reading f)
 reading-values f =
     reading-lines f (Refusing (Values f)) (record {
-      on1 = Values.none (omega arith) refl;
-      on2 = Values.none (omega arith) refl;
-      on3 = Values.none (omega arith) refl;
+      on1 = Values.none (omega arith) (omega arith) refl;
+      on2 = Values.none (omega arith) (omega arith) refl;
+      on3 = Values.none (omega arith) (omega arith) refl;
       on4 = λ k h. Values.position (badNames f (sizesOf f)) (omega arith) (omega arith) refl (names-first f k h);
       on5 = λ k h. Values.position (badBoolean f (sizesOf f)) (omega arith) (omega arith) refl (boolean-first f k h);
       on6 = λ k h. Values.position (badNumber f (sizesOf f)) (omega arith) (omega arith) refl (number-first f k h);
@@ -179,7 +180,7 @@ reading-values f =
 opening-values : (e : Edition) (f : List ℕ) → Refusing (Values f) (opening e f)
 unfolding opening
 opening-values e f =
-    if-both (Refusing (Values f)) (not (okEdition e)) (λ _. Values.none (omega arith) refl)
+    if-both (Refusing (Values f)) (not (okEdition e)) (λ _. Values.none (omega arith) (omega arith) refl)
     (λ _. mapped (reading f) (reading-values f))
   where
     mapped : (a : Answer Sizes) → Refusing (Values f) a → Refusing (Values f) (mapAnswer (openingOf e) a)
@@ -188,14 +189,14 @@ opening-values e f =
 
 -- ---- merging
 
-module _ (e : Edition) (a b : List ℕ) (room : ℕ) where
+module _ (e : Edition) (a b : List ℕ) (room : ℕ) (o : okEdition e ≡ true) where
   fits : isGiven (reading a) ≡ true → isGiven (reading b) ≡ true
       → Refusing (MergedValues e a b) (fitting room (encode (merged e a b)))
   fits g h =
       if-both (Refusing (MergedValues e a b)) (not (leb (length (encode (merged e a b))) fileMost))
-      (λ _. MergedValues.size g h refl refl)
+      (λ _. MergedValues.written o g h (inl (refl, refl)))
       (λ _. if-both (Refusing (MergedValues e a b)) (not (leb (length (encode (merged e a b))) room))
-      (λ _. MergedValues.room (length (encode (merged e a b))) g h refl refl) (λ _. tt))
+      (λ _. MergedValues.written o g h (inr (refl, refl))) (λ _. tt))
 
   after-second : isGiven (reading a) ≡ true
       → Refusing (MergedValues e a b) (andThen (ofFile 2 (reading b)) (fitting room (encode (merged e a b))))
@@ -203,7 +204,7 @@ module _ (e : Edition) (a b : List ℕ) (room : ℕ) where
     where
       by-answer : (x : Answer Sizes) → reading b ≡ x → Refusing (Values b) x
           → Refusing (MergedValues e a b) (andThen (ofFile 2 x) (fitting room (encode (merged e a b))))
-      by-answer (refused n w) q p = MergedValues.second w g q refl p
+      by-answer (refused n w) q p = MergedValues.second w o g q refl p
       by-answer (gives s) q p = fits g (ap isGiven q)
 
   after-first : Refusing (MergedValues e a b)
@@ -213,14 +214,14 @@ module _ (e : Edition) (a b : List ℕ) (room : ℕ) where
       by-answer : (x : Answer Sizes) → reading a ≡ x → Refusing (Values a) x
           → Refusing (MergedValues e a b)
           (andThen (ofFile 1 x) (andThen (ofFile 2 (reading b)) (fitting room (encode (merged e a b)))))
-      by-answer (refused n w) q p = MergedValues.first w q refl p
+      by-answer (refused n w) q p = MergedValues.first w o q refl p
       by-answer (gives s) q p = after-second (ap isGiven q)
 
-  merging-values : Refusing (MergedValues e a b) (merging e a b room)
-  unfolding merging
-  merging-values =
-      if-both (Refusing (MergedValues e a b)) (not (okEdition e)) (λ h. MergedValues.edition (not-true _ h) refl refl)
-      (λ _. after-first)
+merging-values : (e : Edition) (a b : List ℕ) (room : ℕ) → Refusing (MergedValues e a b) (merging e a b room)
+unfolding merging
+merging-values e a b room =
+    if-both (Refusing (MergedValues e a b)) (not (okEdition e)) (λ h. MergedValues.edition (not-true _ h) refl refl)
+    (λ h. after-first e a b room (not-false _ h))
 
 -- ---- a position is below the most bytes of a file
 
@@ -260,10 +261,10 @@ merged-fits e a b room n v q l = by-file (refusing-at (MergedValues e a b) (merg
   where
     by-file : MergedValues e a b n v → getD v 1 0 < fileMost
     by-file (MergedValues.edition o k z) = rw z (omega arith)
-    by-file (MergedValues.first w r z p) = rw z (read-fits a n w r)
-    by-file (MergedValues.second w g r z p) = rw z (read-fits b n w r)
-    by-file (MergedValues.size g h k z) = absurd (let y : ⊥ = omega arith in y)
-    by-file (MergedValues.room k g h z y) = absurd (let x : ⊥ = omega arith in x)
+    by-file (MergedValues.first w o r z p) = rw z (read-fits a n w r)
+    by-file (MergedValues.second w o g r z p) = rw z (read-fits b n w r)
+    by-file (MergedValues.written o g h (inl z)) = absurd (let k = z .0 in let y : ⊥ = omega arith in y)
+    by-file (MergedValues.written o g h (inr z)) = absurd (let k = z .0 in let y : ⊥ = omega arith in y)
 
 pub positions : Positions
 positions =

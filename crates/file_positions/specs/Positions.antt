@@ -5,6 +5,7 @@
 use mathlib.Core.Path.{_≡_}
 use mathlib.Core.Bool.{Bool, true, false, not}
 use mathlib.Core.List.{List, [], _∷_}
+use mathlib.Core.Logic.{_⊎_}
 use Prim.Native.Nat.{ℕ, _+_, _*_, _≤_, _<_}
 use lib.Dec.{eqb, ltb}
 use lib.ListN.{length, getD}
@@ -18,7 +19,8 @@ use Rattle.entry.specs.Limits.{headerSize, numberWidth, offsetWidth}
 use Rattle.entry.specs.Layout.{sizesOf, booleansAt, padOf, numbersAt, stringsAt}
 use Rattle.entry.specs.Reading.{okBooleanAt, okNumberAt, okStringAt, reading}
 use Rattle.entry.specs.Asking.{opening}
-use Rattle.entry.specs.Merging.{merging}
+use Rattle.entry.specs.Writing.{encode}
+use Rattle.entry.specs.Merging.{merged, merging}
 
 -- ---- the four tables
 
@@ -51,29 +53,30 @@ tableOf f s n =
 
 -- ---- what a position is
 
--- at position p of the file stands the first byte or slot of the table that is bad
+-- at position p of the file stands the first byte or slot of the table that is bad, whole
 pub record FirstBad (f : List ℕ) (t : Table) (p : ℕ) : Type 0 where
   pub index : ℕ
   pub position : p ≡ t .start + t .width * index
   pub inside : index < t .count
-  pub lies : p < length f
+  pub lies : p + t .width ≤ length f
   pub bad : t .ok index ≡ false
   pub before : (j : ℕ) → j < index → t .ok j ≡ true
 
 -- what a file's refusal gives: 1 to 3 nothing, 4 to 7 a position
 pub data Values (f : List ℕ) (n : ℕ) (v : List ℕ) : Type 0 where
-  none : n ≤ 3 → v ≡ [] → Values f n v
+  none : 1 ≤ n → n ≤ 3 → v ≡ [] → Values f n v
   position : (p : ℕ) → 4 ≤ n → n ≤ 7 → v ≡ p ∷ [] → FirstBad f (tableOf f (sizesOf f) n) p → Values f n v
 
--- what merging's refusal gives: of a file which one it was, then what reading that file gives
+-- what merging's refusal gives: in an edition that is not too large, of a file which one it was, then what reading that
+-- file gives; of accepted files nothing, or the merged file's length
 pub data MergedValues (e : Edition) (a b : List ℕ) (n : ℕ) (v : List ℕ) : Type 0 where
   edition : okEdition e ≡ false → n ≡ 3 → v ≡ [] → MergedValues e a b n v
-  first : (w : List ℕ) → reading a ≡ refused n w → v ≡ 1 ∷ w → Values a n w → MergedValues e a b n v
-  second : (w : List ℕ) → isGiven (reading a) ≡ true → reading b ≡ refused n w → v ≡ 2 ∷ w → Values b n w
+  first : (w : List ℕ) → okEdition e ≡ true → reading a ≡ refused n w → v ≡ 1 ∷ w → Values a n w
       → MergedValues e a b n v
-  size : isGiven (reading a) ≡ true → isGiven (reading b) ≡ true → n ≡ 9 → v ≡ [] → MergedValues e a b n v
-  room : (k : ℕ) → isGiven (reading a) ≡ true → isGiven (reading b) ≡ true → n ≡ 8 → v ≡ k ∷ []
-      → MergedValues e a b n v
+  second : (w : List ℕ) → okEdition e ≡ true → isGiven (reading a) ≡ true → reading b ≡ refused n w → v ≡ 2 ∷ w
+      → Values b n w → MergedValues e a b n v
+  written : okEdition e ≡ true → isGiven (reading a) ≡ true → isGiven (reading b) ≡ true
+      → ((n ≡ 9) × (v ≡ [])) ⊎ ((n ≡ 8) × (v ≡ length (encode (merged e a b)) ∷ [])) → MergedValues e a b n v
 
 pub record Positions : Type 0 where
   pub reads : (f : List ℕ) (n : ℕ) (v : List ℕ) → reading f ≡ refused n v → Values f n v

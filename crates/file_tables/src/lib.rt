@@ -137,7 +137,8 @@ pub fn bad_names(file: &[u8], s: Sizes, t: Tables) -> usize
     requires { ⌜ Framed (now file) s t ⌝ }
     ensures { λ r. ⌜ r ≡ badNames (now (file .entry)) s ⌝ }
 {
-    word::find_nul(file, HEADER_SIZE, t.booleans_at - 1)
+    let last = t.booleans_at - 1;
+    word::find_nul(file, HEADER_SIZE, last)
 }
 
 // The first bad boolean; the byte behind them, where the pad stands, if there is none.

@@ -16,7 +16,7 @@ use Rattle.edition.specs.Edition.{place, stringsMost}
 use Rattle.entry.specs.State.{State, absent, cancelled, present}
 use Rattle.entry.specs.Asking.{opening, askingBoolean, askingNumber, askingString, partGiven}
 use Rattle.entry.specs.Limits.{fileMost}
-use Rattle.entry.specs.Says.{fileNumber, fileValues, filePosition}
+use Rattle.entry.specs.Says.{filePosition, refusedFile}
 use Rattle.list_states.specs.declared.Listed.{Listed}
 use Rattle.list_states.specs.declared.Listed.the-variants as L
 
@@ -138,7 +138,7 @@ done x = tt
 
 abbrev pub saysListed : Listed → Answer (Unit {0})
 saysListed L.Done = gives tt
-saysListed (L.Refused r) = refused (fileNumber r) (fileValues r)
+saysListed (L.Refused r) = refusedFile r
 saysListed (L.Room n) = refused 8 (n ∷ [])
 
 -- what a call says, and the arrays before it and after it

@@ -32,7 +32,7 @@ use Rattle.entry_laws.specs.Demands.{written-only-if}
 use Rattle.entry_laws.specs.MergeDemands.{merged-only-if}
 use Rattle.file_positions.proofs.Positions.{merged-fits}
 use Rattle.list_states.specs.Listing.{done}
-use Rattle.c_numbers.specs.Numbers.{numbered, mergedNumber, none, openingArray}
+use Rattle.c_numbers.specs.Numbers.{numbered, mergingNumber, none, openingArray}
 use Rattle.c_numbers.specs.Numbers.{WrittenWithin, MergedWithin}
 use Rattle.c_numbers.proofs.Laws.{file-most}
 use Rattle.c_asked.specs.Asked.{askedCode, asking8}
@@ -179,8 +179,8 @@ unfolding numbered
 numbered-length (refused n v) = refl
 numbered-length (gives f) = refl
 
-pub merged-length : (a : Answer (List ℕ)) → mergedNumber (λ n. n) (mapAnswer length a) ≡ mergedNumber length a
-unfolding mergedNumber
+pub merged-length : (a : Answer (List ℕ)) → mergingNumber (λ n. n) (mapAnswer length a) ≡ mergingNumber length a
+unfolding mergingNumber
 merged-length (refused n v) = refl
 merged-length (gives f) = refl
 

@@ -11,7 +11,7 @@ ghost use Rattle.entry.specs.Writing.{writing};
 ghost use Rattle.text.specs.Building.{first, named};
 ghost use Rattle.text.specs.Compiling.{compiling};
 ghost use Rattle.expansion.specs.Expanding.{expanding};
-ghost use Rattle.c_numbers.specs.Numbers.{numbered, mergedNumber, none, partCode, openingArray};
+ghost use Rattle.c_numbers.specs.Numbers.{numbered, mergingNumber, none, partCode, openingArray};
 ghost use Rattle.c_asked.specs.Asked.{edition, booleanState, numberState, stringState};
 ghost use Rattle.c_asked.specs.Asked.{asking8, namingBy, findNumber, namedState};
 ghost use Rattle.terminfo_c.specs.Calls.{arrayAfter, FileNumber, ExpandedNumber, ListedNumber};
@@ -260,8 +260,9 @@ pub extern "C" fn terminfo_merge(
     strings: usize,
     buffer: &mut [u8],
 ) -> u64
-    ensures { λ r. ⌜ FileNumber (mergedNumber length) (merging (edition booleans numbers strings)
-        (now (first .entry)) (now (second .entry)) (length (now (buffer .entry)))) (now (buffer .entry)) (now (buffer .exit)) r ⌝ }
+    ensures { λ r. ⌜ FileNumber (mergingNumber length) (merging (edition booleans numbers strings)
+        (now (first .entry)) (now (second .entry)) (length (now (buffer .entry)))) (now (buffer .entry))
+        (now (buffer .exit)) r ⌝ }
 {
     let m = merge::merge(
         first,

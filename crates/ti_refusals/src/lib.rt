@@ -101,7 +101,7 @@ pub fn refuse_unknown(path: &[u8], name: &[u8], number: u8) -> Status {
     end(number)
 }
 
-// Says that a file is refused, with the byte where the refusal gives one.
+// Says that a file is refused, with the byte where the refusal gives one: none is below the header's 12.
 pub fn refuse_file(path: &[u8], file: &[u8], edition: Edition, why: FileRefusal) -> Status {
     begin(path);
     complain(b": ");

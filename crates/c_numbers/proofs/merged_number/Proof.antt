@@ -3,7 +3,7 @@
 use mathlib.Core.Path.{subst, sym, ap, _∙_}
 use native.Mathlib.Omega.{arith}
 use Rattle.entry.specs.Says.{saysMerged}
-use Rattle.c_numbers.specs.Numbers.{mergedNumber, MergedWithin}
+use Rattle.c_numbers.specs.Numbers.{mergingNumber, MergedWithin}
 use Rattle.c_numbers.proofs.Laws.{merged-first, merged-second, file-bits}
 use borrow.Author.Needs.{needs}
 use Rattle.c_numbers.proofs.merged_number.Statement.{statement}
@@ -64,11 +64,11 @@ add-result-3 c =
     omega arith
 
 returns : tie.Need-returns
-unfolding mergedNumber
+unfolding mergingNumber
 returns c = rw (c .before .m .given .1)
 
 returns-2 : tie.Need-returns-2
-unfolding mergedNumber
+unfolding mergingNumber
 returns-2 c =
     rw (
       c .before .before .top .ensures,
@@ -79,15 +79,15 @@ returns-2 c =
 returns-3 : tie.Need-returns-3
 returns-3 c =
     merged-first (c .before .before .m2 .given .0 .0) _ (c .file-number .ensures)
-    ∙ ap (λ g. mergedNumber (λ n. n) (saysMerged g)) (sym (c .before .before .m2 .given .1))
+    ∙ ap (λ g. mergingNumber (λ n. n) (saysMerged g)) (sym (c .before .before .m2 .given .1))
 
 returns-4 : tie.Need-returns-4
 returns-4 c =
     merged-second (c .before .before .m3 .given .0 .0) _ (c .file-number2 .ensures)
-    ∙ ap (λ g. mergedNumber (λ n. n) (saysMerged g)) (sym (c .before .before .m3 .given .1))
+    ∙ ap (λ g. mergingNumber (λ n. n) (saysMerged g)) (sym (c .before .before .m3 .given .1))
 
 returns-5 : tie.Need-returns-5
-unfolding mergedNumber
+unfolding mergingNumber
 returns-5 c =
     rw (
       c .before .before .top .ensures,
@@ -96,7 +96,7 @@ returns-5 c =
     )
 
 returns-6 : tie.Need-returns-6
-unfolding mergedNumber
+unfolding mergingNumber
 returns-6 c =
     rw (
       c .before .before .before .top .ensures,

@@ -5,8 +5,8 @@ use Rattle.file_tables.proofs.Laws.{at-booleans}
 use Rattle.file_tables.proofs.bad_names.Statement.{statement}
 use Rattle.file_tables.proofs.bad_names.Tie as tie
 
-sub-find-nul : tie.Need-sub-find-nul
-sub-find-nul c = (let e = at-booleans (c .before .before .pre) in omega arith)
+sub-last : tie.Need-sub-last
+sub-last c = (let e = at-booleans (c .before .before .pre) in omega arith)
 
 find-nul-requires : tie.Need-find-nul-requires
 find-nul-requires c κs =
@@ -20,4 +20,4 @@ unfolding badNames
 returns c = rw (c .find-nul .ensures, at-booleans (c .before .before .before .pre))
 
 pub bad-names-spec : {M : Type 1} → statement M
-bad-names-spec = tie.close (tie.spec sub-find-nul find-nul-requires returns)
+bad-names-spec = tie.close (tie.spec sub-last find-nul-requires returns)

@@ -1,6 +1,6 @@
 -- `terminfo_c::terminfo_merge` meets its contract: what merging answers, as a number.
 use mathlib.Core.Path.{ap, _∙_}
-use Rattle.c_numbers.specs.Numbers.{mergedNumber}
+use Rattle.c_numbers.specs.Numbers.{mergingNumber}
 use Rattle.terminfo_c.proofs.Laws.{merged-within, merged-length}
 use borrow.Author.Needs.{needs}
 use Rattle.terminfo_c.proofs.terminfo_merge.Statement.{statement}
@@ -18,7 +18,7 @@ same-length c = search needs
 returns : tie.Need-returns
 returns c =
     record {
-      number = c .merged-number .ensures ∙ ap (mergedNumber (λ n. n)) (c .before .before .before .merge .ensures .0) ∙ merged-length _;
+      number = c .merged-number .ensures ∙ ap (mergingNumber (λ n. n)) (c .before .before .before .merge .ensures .0) ∙ merged-length _;
       buffer = c .before .before .before .merge .ensures .1;
     }
 
