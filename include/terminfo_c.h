@@ -387,6 +387,10 @@ uint64_t terminfo_merge(const uint8_t *first, size_t first_length, const uint8_t
  * Uses at most 1,736 bytes of stack. */
 uint64_t terminfo_capability(uint8_t kind, size_t place);
 
+/* How many bytes the output of terminfo_expand has at most, for a string of this length. With a
+ * constant length it can be the size of an array. */
+#define TERMINFO_EXPAND_ROOM(length) ((size_t)25 * (length))
+
 /* Expands a parameterized string and writes the output into the buffer from a place on.
  *
  * string, string_length  the string, at most 1,000 bytes. A delay such as $<5> in it is text.
@@ -419,6 +423,10 @@ uint64_t terminfo_capability(uint8_t kind, size_t place);
  * Success gives the steps, which are the items taken, times 2^24 plus the output's length
  * (terminfo_steps, terminfo_length). The output holds no NUL, whatever the string, the arguments and
  * the variables (the theorem expanding-no-nul of output_laws).
+ *
+ * The steps are at most string_length, and the output has at most 25 times string_length bytes,
+ * also where 8 gives its length. So 8 is not given where buffer_length is at least
+ * at + TERMINFO_EXPAND_ROOM(string_length) (the theorem bounded of room_laws).
  *
  * Refusals, the first that applies: 17 (at is above buffer_length), 1 (above 1,000 bytes), 14 (gives
  * the place of the first wrong item, or the string's length for an open conditional), 15 and 16 (give

@@ -2,7 +2,8 @@
 
 The strings that go to library and model are all short ones of some kinds, and generated ones, the
 same in every run. Fails at the first difference, and if a refusal, or a case that NEEDED names,
-never came.
+never came. Strings of installed entries and generated ones that are accepted are held to the bounds
+of document 02, 2026-06: a string of n bytes takes at most n steps and prints at most 25 n bytes.
 """
 
 import ctypes
@@ -16,12 +17,14 @@ import library
 from expand_model import BINARY, DEEPEST, ITEM, STACK_SIZE, UNARY
 from library import GUARD, POINTER, SIZE, Lent, pack, require
 from model import LARGEST_STRING, Refusal
-from test_ncurses import fields, run
+from test_ncurses import fields, installed, run
 from test_random import HUGE, below, pick, rng, upto
 from test_vectors import bytes_of, lines, refusal, same
 
 SEED = 1000
 GENERATED = 120_000
+BOUNDED_SEED = 25
+BOUNDED = 100_000
 REFUSALS = (0, 1, 8, 14, 15, 16, 17)  # 0 is success
 LETTERS = b"ABCDEFGHIJKLMNOPQRSTUVWXYZabcdefghijklmnopqrstuvwxyz"
 
@@ -179,6 +182,8 @@ EDGES = [LEAST, LEAST + 1, -65536, -257, -256, -255, -128, -10, -5, -2, -1, 0, 1
          79, 99, 100, 127, 128, 255, 256, 257, 32767, 32768, 46340, 46341, 65535, 65536, 10**9,
          LARGEST - 1, LARGEST]
 SOME_LASTING = list(range(-13, 13))
+FORMS = [b""] + [b"%s%d" % (zero, width) for zero in (b"", b"0") for width in range(1, 100)]
+CONVERSIONS = b"d", b"o", b"x", b"X"
 
 
 def check_short(string, *arguments):
@@ -187,8 +192,7 @@ def check_short(string, *arguments):
 
 def check_formats():
     """Every width with every fill and conversion."""
-    forms = [b""] + [b"%s%d" % (zero, width) for zero in (b"", b"0") for width in range(1, 100)]
-    for form, conversion, value in product(forms, (b"d", b"o", b"x", b"X"), EDGES):
+    for form, conversion, value in product(FORMS, CONVERSIONS, EDGES):
         check_short(b"<%p1%" + form + conversion + b">", value)
 
 
@@ -462,6 +466,142 @@ def check_generated():
             same(needed, len(output), f"length without room of {string}")
 
 
+# The bounds of document 02, 2026-06
+
+OUTPUT_PER_BYTE = 25  # of the string
+TIGHTEST = b"%p1%99d"
+# Arguments for the strings of installed entries, besides MORE_ARGUMENTS generated lists of them.
+USUAL_ARGUMENTS = [9 * [0], 9 * [1], 9 * [-1], 9 * [LEAST], 9 * [LARGEST], [5, 70, *7 * [0]],
+                   [0, 1, 0, 1, 0, 1, 0, 1, 0], [1, 0, 1, 0, 1, 0, 1, 0, 1], list(range(1, 10)),
+                   [255, 1000, 500, 333, *5 * [99]]]
+MORE_ARGUMENTS = 10
+ACCEPTED = (0, 15, 16)  # what accepted strings give with enough room
+BOUNDED_CASES = ("at place 0", "at another place", "8 with one byte less than the output",
+                 "as many steps as bytes", "of 1,000 bytes", "over 14 bytes of output for a byte")
+
+bounded = Counter()  # how often each number of ACCEPTED and each of BOUNDED_CASES came
+
+
+def check_bounds(string, arguments, lasting, at):
+    """An accepted string with the room that always suffices, exactly, by library and model.
+
+    Returns steps and output (None if refused). An item at which a step fails stands in the string.
+    """
+    size = len(string)
+    most = OUTPUT_PER_BYTE * size
+    answer, output, _ = check(string, arguments, lasting, at + most, at)
+    number, value = answer >> 56, answer & (1 << 56) - 1
+    steps = value >> 24
+    if number:
+        kept = number in ACCEPTED and value < size
+    else:
+        kept = steps <= size and len(output) <= most
+    if not kept:
+        sys.exit(f"{hex(answer)} is past the bounds of {string} with {arguments} and {lasting}")
+    bounded[number] += 1
+    bounded["at another place" if at else "at place 0"] += 1
+    if output:
+        answer, _, _ = expand(string, arguments, lasting, at + len(output) - 1, at)
+        same(answer, pack(8, len(output)), f"one byte less than {string} prints")
+        bounded["8 with one byte less than the output"] += 1
+        bounded["as many steps as bytes"] += steps == size
+        bounded["of 1,000 bytes"] += size == LARGEST_STRING
+        bounded["over 14 bytes of output for a byte"] += len(output) > 14 * size
+    return steps, output
+
+
+def check_tightest():
+    """Strings with the most output that is known, and with the most steps; how many there are."""
+    counts = range(1, LARGEST_STRING // len(TIGHTEST) + 1)
+    for count in counts:
+        same(check_bounds(count * TIGHTEST, 9 * [1], 26 * [0], 7),
+             (2 * count, count * b"1".rjust(99)), f"{TIGHTEST} {count} times")
+    sizes = 0, 1, 2, LARGEST_STRING - 1, LARGEST_STRING
+    for size in sizes:
+        same(check_bounds(size * b"x", 9 * [0], 26 * [0], 0), (size, size * b"x"), f"{size} bytes")
+    return len(counts) + len(sizes)
+
+
+def check_items():
+    """Each item that prints, after a push: at most 25 bytes for each byte of the item alone.
+
+    The most is 99 for the four bytes of %99d. Returns how many expansions there are.
+    """
+    items = [b"%" + form + conversion for form in FORMS for conversion in CONVERSIONS]
+    items += [b"%c", b"%%"] + [b"%c" % byte for byte in range(1, 256) if byte != ord("%")]
+    most = 0
+    same(check_bounds(b"%p1", 9 * [1], 26 * [0], 0), (1, b""), "a push")
+    given = list(product(items, (LEAST, -1, 0, LARGEST)))
+    for item, value in given:
+        steps, output = check_bounds(b"%p1" + item, [value, *8 * [0]], 26 * [0], 0)
+        if steps != 2 or len(output) > OUTPUT_PER_BYTE * len(item):
+            sys.exit(f"{item} prints {output}")
+        most = max(most, len(output) / len(item))
+    same(most, 99 / 4, "the most that an item prints for each of its bytes")
+    return 1 + len(given)
+
+
+def check_installed():
+    """Every parameterized string of installed entries; how many are accepted, and refused 14."""
+    strings = {content for _, entry in installed() for _, content in fields(entry)[1].values()
+               if isinstance(content, bytes) and b"%" in content}
+    accepted = [string for string in sorted(strings)
+                if check(string, 9 * [0], 26 * [0], 0, 0)[0] >> 56 != 14]
+    for string in accepted:
+        for arguments in USUAL_ARGUMENTS:
+            check_bounds(string, arguments, 26 * [0], 0)
+        for _ in range(MORE_ARGUMENTS):
+            check_bounds(string, pick_values(9), pick_values(26), 1 + below(3000))
+    return len(accepted), len(strings) - len(accepted)
+
+
+def wide_items():
+    return [item for _ in range(1 + below(8)) for item in (
+        push(), b"%" + pick(b"", b"0") + pick(digits(9), digits(99), b"99") + pick(*CONVERSIONS))]
+
+
+def right_items():
+    """Items, none a mark, of which some find too few values or no room on the stack."""
+    return [pick(push, push, pop, pop, binary, unary, text)() for _ in range(upto(30))]
+
+
+def accepted_string():
+    size = LARGEST_STRING + 1
+    while size > LARGEST_STRING:
+        string = b"".join(pick(
+            sound_items, wide_items, wide_items, right_items, repeated, lambda: [text()],
+            lambda: nested(upto(DEEPEST)), lambda: balanced(0, upto(12), 0),
+            lambda: [push() for _ in range(STACK_SIZE + below(3))])())
+        size = len(string)
+    return string * (LARGEST_STRING // size) if size and below(32) == 0 else string
+
+
+def run_bounds():
+    """Holds all of these to the bounds; how many expansions there are.
+
+    Exits if there are others than stated, or if a case never came among the generated strings.
+    """
+    rng.seed(BOUNDED_SEED)
+    runs = check_tightest() + check_items()
+    accepted, malformed = check_installed()
+    runs += accepted * (len(USUAL_ARGUMENTS) + MORE_ARGUMENTS)
+    same(sum(bounded[number] for number in ACCEPTED), runs, "expansions before the generated ones")
+    before = bounded.copy()
+    for _ in range(BOUNDED):
+        check_bounds(accepted_string(), pick_values(9), pick_values(26),
+                     pick(0, 0, 1, below(50), below(3000)))
+    generated = bounded - before
+    same(sum(generated[number] for number in ACCEPTED), BOUNDED, "generated expansions")
+    missing = [case for case in (*ACCEPTED, *BOUNDED_CASES) if not generated[case]]
+    if missing or not accepted:
+        sys.exit(f"bounds: never seen: {missing}; {accepted} strings of installed entries")
+    runs += BOUNDED
+    print(f"{runs} expansions, of {accepted} strings of installed entries (besides {malformed} that "
+          f"are refused 14), {BOUNDED} generated ones and others: at most n steps and 25 n bytes of "
+          "output for n bytes, and with that room never 8")
+    return runs
+
+
 # ncurses
 
 TPARM = ctypes.CDLL("libtinfo.so.6").tparm
@@ -549,6 +689,7 @@ if __name__ == "__main__":
     for part in (check_formats, check_operators, check_two_bytes, check_variables,
                  check_conditionals, check_generated):
         part()
+    runs = run_bounds()
     report()
     print(f"{vectors} vectors, {sent} strings of tput, {sum(tally.values())} inputs of which "
-          f"{GENERATED} generated, no difference")
+          f"{GENERATED + BOUNDED} generated, no difference; {runs} of them within the bounds")

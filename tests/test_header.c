@@ -226,6 +226,37 @@ static void expanding(void) {
     assert(!memcmp(buffer, "-05[1;1H........", sizeof buffer) && lasting[1] == -5);
 }
 
+/* The room that every output fits into, as the size of an array, with a string that prints 99 bytes
+ * for every seven of its own; from a later place on; and with one byte less than it prints. */
+static void expanding_room(void) {
+    enum { TIMES = 142, LENGTH = 7 * TIMES, PRINTED = 99 * TIMES };
+    static uint8_t buffer[TERMINFO_EXPAND_ROOM(LENGTH)];
+    const int32_t arguments[9] = {1, 0, 0, 0, 0, 0, 0, 0, 0};
+    int32_t lasting[26] = {0};
+    uint8_t string[LENGTH];
+    uint64_t answer;
+    size_t i;
+
+    assert(TERMINFO_EXPAND_ROOM(0) == 0 && TERMINFO_EXPAND_ROOM(1) == 25);
+    assert(TERMINFO_EXPAND_ROOM(999 + 1) == 25000 && 2 * TERMINFO_EXPAND_ROOM(2) == 100);
+    assert(sizeof buffer == 24850 && sizeof TERMINFO_EXPAND_ROOM(1) == sizeof(size_t));
+    for (i = 0; i < TIMES; i++)
+        memcpy(string + 7 * i, "%p1%99d", 7);
+
+    memset(buffer, '.', sizeof buffer);
+    answer = terminfo_expand(string, LENGTH, arguments, lasting, buffer, PRINTED - 1, 0);
+    assert(terminfo_refusal(answer) == TERMINFO_REFUSED_ROOM && terminfo_value(answer) == PRINTED);
+    assert(buffer[0] == '.');
+    answer = terminfo_expand(string, LENGTH, arguments, lasting, buffer, sizeof buffer, 0);
+    assert(terminfo_refusal(answer) == 0);
+    assert(terminfo_steps(answer) == 2 * TIMES && terminfo_length(answer) == PRINTED);
+    for (i = 0; i < sizeof buffer; i++)
+        assert(buffer[i] == (i >= PRINTED ? '.' : i % 99 == 98 ? '1' : ' '));
+    answer = terminfo_expand(string, LENGTH - 7, arguments, lasting, buffer, sizeof buffer,
+                             TERMINFO_EXPAND_ROOM(7));
+    assert(terminfo_refusal(answer) == 0 && terminfo_length(answer) == PRINTED - 99);
+}
+
 /* The state of a capability by its name, in the second edition. */
 static uint64_t named(const uint8_t *file, size_t length, const char *name) {
     return terminfo_state(file, length, TERMINFO_SECOND_EDITION, (const uint8_t *)name,
@@ -463,6 +494,7 @@ int main(void) {
     positions();
     no_positions();
     expanding();
+    expanding_room();
     compiling();
     editions();
     descriptions();

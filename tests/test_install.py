@@ -22,6 +22,7 @@ PATH = "/usr/bin:/bin"  # of what is installed: without rt
 COMMANDS = {"compile", "check", "show", "merge", "expand", "help", "build", "install"}
 COMMAND = re.compile(r"^ti (\w+)", re.MULTILINE)
 PROTOTYPE = re.compile(r"^(?:static inline )?((?:const )?\w+ \**terminfo_\w+\([^;{]*?\))", re.MULTILINE)
+MACRO = re.compile(r"^ *#define ((\w+)\(.*)$", re.MULTILINE)  # one that takes arguments
 OTHER_USER = ["setpriv", "--reuid=65534", "--regid=65534", "--clear-groups"]
 STAND_IN = """#!/bin/sh
 # Proves nothing: writes what rt check ti writes, and the program.
@@ -167,7 +168,10 @@ def rendered(page):
 
 
 def check_pages():
-    """Each command of `ti help` has its paragraph, each call of the header its prototype and its own."""
+    """Each command of `ti help` has its paragraph, each call of the header its prototype and its own.
+
+    So has each macro that takes arguments, with its definition instead of the prototype.
+    """
     page = rendered("ti.1")
     texts = run([TI, "help"])[0] + "".join(run([TI, "help", w])[0] for w in ("build", "install"))
     commands = COMMAND.findall(texts)
@@ -177,16 +181,21 @@ def check_pages():
         for part in (synopsis, paragraphs):
             same(re.search(rf"^ +ti {command}\b", part, re.MULTILINE) is not None, True, command)
     for header in (ROOT / "include").glob("*.h"):
-        prototypes = PROTOTYPE.findall(header.read_text(encoding="utf-8"))
+        text = header.read_text(encoding="utf-8")
+        prototypes, macros = PROTOTYPE.findall(text), MACRO.findall(text)
         synopsis, _, paragraphs = rendered("terminfo_c.3").partition("\nDESCRIPTION\n")
+        shown = MACRO.findall(synopsis)
         synopsis = "".join(synopsis.split())
+        names = [name for _, name in macros]
         for prototype in prototypes:
-            name = re.search(r"terminfo_\w+", prototype)[0]
-            same("".join(prototype.split()) + ";" in synopsis, True, f"synopsis of {name}")
+            names.append(re.search(r"terminfo_\w+", prototype)[0])
+            same("".join(prototype.split()) + ";" in synopsis, True, f"synopsis of {names[-1]}")
+        for name in names:
             same(re.search(rf"^ {{7}}(\S.*)?\b{name}\(\)", paragraphs, re.MULTILINE) is not None, True,
                  f"paragraph of {name}")
         if header.name == "terminfo_c.h":
             same(len(prototypes) == synopsis.count(");"), True, "calls in the synopsis")
+            same(shown, macros, "macros in the synopsis")
 
 
 def repository(name):

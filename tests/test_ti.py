@@ -36,6 +36,8 @@ OLD = b"the file that was there before"
 # What act4 is compiled to in the second edition, which ti gives, and what ti says of it.
 ACT4 = text_model.compile(act4.TEXT, LARGEST_FILE, SECOND_EDITION)[2]
 COMPILED = (0, f"compiled: {len(ACT4)} bytes\n", "")
+# What ti expand -v prints for cup of act4 with 5 and 70.
+ACT4_CUP = b"\\024\\005F\n5 steps (at most 11), 3 bytes (at most 275)\n"
 TOO_LARGE = ("ti: the edition is too large: at most 64 booleans, 64 numbers, 512 strings "
              "(refusal 3)\n")
 REFUSED = re.compile(r"ti: (.*?): (.*) \(refusal (\d+)(?:, byte (\d+))?\)\n")
@@ -605,8 +607,7 @@ def check_editions():
             runs += 1
         put("out", OLD)
     for words in (["-v", "-e", "1"], ["-e", "1", "-v"], ["-e", "1", "-v", "-e", "2", "--"]):
-        same(raw("expand", *words, "act", "cup", "5", "70"), (0, b"\\024\\005F\n5 steps\n", ""),
-             words)
+        same(raw("expand", *words, "act", "cup", "5", "70"), (0, ACT4_CUP, ""), words)
     for command, words in (("compile", ["out"]), ("merge", ["act", "act", "out"])):
         same(raw(command, "-e", "1", *words, given=act4.TEXT)[0], 0, command)
         same((folder / "out").read_bytes(), act4.dumped(), command)
@@ -694,6 +695,12 @@ def with_string(string, place):
     return model.written(b"a|b", states, LARGEST_FILE)
 
 
+def verbose_lines(output, steps, size):
+    """What ti expand -v prints for a string of this size."""
+    return (f"{shown(output, 33)}\n{steps} steps (at most {size}), {len(output)} bytes "
+            f"(at most {25 * size})\n").encode()
+
+
 def check_expansion(string, values):
     """ti expand and ti expand -v on a string with some values."""
     name = pick("cup", "cup", "sgr", "mc5p", "pln")
@@ -712,7 +719,7 @@ def check_expansion(string, values):
                     refusal.value if refusal.number in (14, 15, 16) else None)
         return refusal.number
     same(found, (0, made.output, ""), string)
-    same(verbose, (0, f"{shown(made.output, 33)}\n{made.steps} steps\n".encode(), ""), string)
+    same(verbose, (0, verbose_lines(made.output, made.steps, len(string)), ""), string)
     return 0
 
 
@@ -721,7 +728,7 @@ def check_expansions():
     put("act", act4.dumped())
     same(raw("expand", "act", "cup", "5", "70"), (0, b"\x14\x05F", ""), "cup of act4")
     same(raw("expand", "-v", "-", "cup", "5", "70", given=act4.dumped()),
-         (0, b"\\024\\005F\n5 steps\n", ""), "cup of act4")
+         (0, ACT4_CUP, ""), "cup of act4")
     same(raw("expand", "act", "cup", "0", "70"), (0, b"\x14\x80F", ""), "cup of act4 at row 0")
     same(raw("expand", "act", "cup"), (0, b"\x14\x80\x80", ""), "cup of act4 at row 0, column 0")
     examples = [(b"\x1b=%p1%' '%+%c%p2%' '%+%c", (3, 12)), (b"%p1%p2%-%d", (7, 5)),

@@ -58,7 +58,7 @@ use Rattle.expansion.specs.declared.Expansion.{Expansion}
 use Rattle.expansion.specs.declared.Expansion.the-variants as E
 use Rattle.expansion.specs.Expanding.{Counts, saysExpansion}
 use Rattle.c_numbers.specs.Numbers.{numbered, mergingNumber, none, stateCode, kinded, partCode, kindCode, capabilityCode}
-use Rattle.c_numbers.specs.Numbers.{openingArray, expansionNumber}
+use Rattle.c_numbers.specs.Numbers.{openingArray, countsCode}
 use Rattle.c_numbers.specs.Numbers.{PartWithin, NamesWithin, StringWithin, WrittenWithin, FileWithin, MergedWithin}
 use Rattle.c_numbers.specs.Numbers.{PlaceWithin, FoundWithin}
 use Rattle.c_numbers.proofs.Laws.{file-most}
@@ -374,45 +374,7 @@ names-below k p = by-known (knows (length (namesOf k)) p) refl
     by-known true q e = ltb-true _ _ (all-at short (namesOf k) (p .0) [] (short-names k) (ltb-true _ _ q))
     by-known false q e = true-false (sym e)
 
--- ---- expansion, whose values go through remainders
-
-abbrev Some : {A : Type 0} → Answer A → Type 0
-Some (refused n v) = 1 ≤ n
-Some (gives x) = Unit {0}
-
-expansion-some : (r : Expansion) → Some (saysExpansion r)
-expansion-some (E.Done n k) = tt
-expansion-some E.Place = omega arith
-expansion-some E.Length = omega arith
-expansion-some (E.Malformed i) = omega arith
-expansion-some (E.Empty i) = omega arith
-expansion-some (E.Full i) = omega arith
-expansion-some (E.Room n) = omega arith
-
-expansion-number : (a : Answer Counts) → expansionNumber a / 2 ^ 56 ≡ numberOf a
-unfolding expansionNumber
-expansion-number (refused n v) = omega arith
-expansion-number (gives c) = omega arith
-
-expansion-below : (a : Answer Counts) → isGiven a ≡ true → expansionNumber a < 2 ^ 56
-unfolding expansionNumber
-expansion-below (refused n v) e = true-false (sym e)
-expansion-below (gives c) e = omega arith
-
-expansion-above : (a : Answer Counts) → Some a → isGiven a ≡ false → 2 ^ 56 ≤ expansionNumber a
-unfolding expansionNumber
-expansion-above (refused n v) h e = omega arith
-expansion-above (gives c) h e = true-false e
-
-expanded : TopByte saysExpansion Any expansionNumber
-expanded = record {
-  top = λ r h. expansion-number (saysExpansion r);
-  success = λ r h e. omega (arith, expansion-below (saysExpansion r) e);
-  refusal = λ r h e. omega (arith, expansion-above (saysExpansion r) (expansion-some r) e);
-}
-
-abbrev countsCode : Counts → ℕ
-countsCode c = c .steps * 2 ^ 24 + c .length
+-- ---- expansion
 
 abbrev CountsOk : Counts → Type 0
 CountsOk c = (c .length < 2 ^ 24) × (c .steps < 2 ^ 24)
@@ -432,29 +394,10 @@ counts-tell c d h k e =
     let s : c .steps ≡ d .steps = omega arith in
     λ i. record { length = n i; steps = s i }
 
--- within the bounds no remainder changes anything
-no-remainder : (a : Answer Counts) → Fits CountsOk a → expansionNumber a ≡ numbered countsCode a
-unfolding expansionNumber numbered
-no-remainder (refused n v) h = omega arith
-no-remainder (gives c) h = omega arith
-
-expansion-tells : Tells saysExpansion ExpansionWithin expansionNumber
-expansion-tells = record {
-  byte = record {
-    top = λ r h. expanded .top r tt;
-    success = λ r h. expanded .success r tt;
-    refusal = λ r h. expanded .refusal r tt;
-  };
-  tells = λ r s v w e.
-      let p = no-remainder (saysExpansion r) (expansion-fits r v) in
-      let q = no-remainder (saysExpansion s) (expansion-fits s w) in
-      counted .tells r s v w (cc);
-}
-  where
-    counted : Tells saysExpansion ExpansionWithin (numbered countsCode)
-    counted =
-        telling saysExpansion ExpansionWithin CountsOk countsCode expansion-fits (λ c h. omega arith) counts-tell
-        back.expansion (λ r _. back.expansion-back r)
+expansion-tells : Tells saysExpansion ExpansionWithin (numbered countsCode)
+expansion-tells =
+    telling saysExpansion ExpansionWithin CountsOk countsCode expansion-fits (λ c h. omega arith) counts-tell
+    back.expansion (λ r _. back.expansion-back r)
 
 -- ---- merging, whose refusals of a file have two values
 
@@ -642,7 +585,6 @@ numbers =
           telling saysName NameWithin (λ w. w < 2 ^ 56) (λ w. w) name-fits (λ w h. h) (λ x y h k e. e)
           back.name (λ r _. back.name-back r);
       listed = names-below;
-      expanded = expanded;
       expansion = expansion-tells;
       opened = top-byte saysOpened OpenedWithin Any none opened-fits (λ x h. omega arith);
       position = opened-position;

@@ -25,10 +25,10 @@ use Rattle.names.specs.Finding.{saysFound}
 use Rattle.text.specs.Compiling.{saysCompiled}
 use Rattle.building_laws.specs.Values.{Bounded}
 use Rattle.expansion.specs.declared.Expansion.{Expansion}
-use Rattle.expansion.specs.declared.Expansion.the-variants as E
-use Rattle.expansion.specs.Expanding.{saysExpansion}
+use Rattle.expansion.specs.Limits.{stringMost}
+use Rattle.expansion.specs.Expanding.{saysExpansion, Within}
 use Rattle.c_numbers.specs.Numbers.{numbered, mergingNumber, none, partCode, booleanNumber, numberNumber, stringNumber}
-use Rattle.c_numbers.specs.Numbers.{openingArray, expansionNumber, capabilityNumber}
+use Rattle.c_numbers.specs.Numbers.{openingArray, countsCode, capabilityNumber}
 use Rattle.c_numbers.specs.Numbers.{NamesWithin, StringWithin, WrittenWithin, FileWithin, MergedWithin, FoundWithin}
 use Rattle.answer_laws.specs.Distinct.{Injective}
 
@@ -54,32 +54,27 @@ abbrev pub NameWithin : Name → Type 0
 NameWithin (A.Packed w) = w < 2 ^ 56
 NameWithin A.Beyond = Unit {0}
 
--- what no remainder of `expansionNumber` changes
+-- an expansion of a string of at most 1,000 bytes (`within` of LentAs in expand_output; by the theorem of room_laws it
+-- follows from the definitions)
 abbrev pub ExpansionWithin : Expansion → Type 0
-ExpansionWithin (E.Done n k) = (n < 2 ^ 24) × (k < 2 ^ 24)
-ExpansionWithin E.Place = Unit {0}
-ExpansionWithin E.Length = Unit {0}
-ExpansionWithin (E.Malformed i) = i < 2 ^ 56
-ExpansionWithin (E.Empty i) = i < 2 ^ 56
-ExpansionWithin (E.Full i) = i < 2 ^ 56
-ExpansionWithin (E.Room n) = n < 2 ^ 56
+ExpansionWithin r = Within stringMost r
 
 -- ---- statements
 
 -- the number of each answer r that lies within its bounds
-pub record TopByte {R A : Type 0} (says : R → Answer A) (Within : R → Type 0) (number : Answer A → ℕ) : Type 0 where
-  pub top : (r : R) → Within r → number (says r) / 2 ^ 56 ≡ numberOf (says r)
-  pub success : (r : R) → Within r → isGiven (says r) ≡ true → number (says r) < 2 ^ 56
-  pub refusal : (r : R) → Within r → isGiven (says r) ≡ false → 2 ^ 56 ≤ number (says r)
+pub record TopByte {R A : Type 0} (says : R → Answer A) (Fits : R → Type 0) (number : Answer A → ℕ) : Type 0 where
+  pub top : (r : R) → Fits r → number (says r) / 2 ^ 56 ≡ numberOf (says r)
+  pub success : (r : R) → Fits r → isGiven (says r) ≡ true → number (says r) < 2 ^ 56
+  pub refusal : (r : R) → Fits r → isGiven (says r) ≡ false → 2 ^ 56 ≤ number (says r)
 
-pub record Tells {R A : Type 0} (says : R → Answer A) (Within : R → Type 0) (number : Answer A → ℕ) : Type 0 where
-  pub byte : TopByte says Within number
-  pub tells : (r s : R) → Within r → Within s → number (says r) ≡ number (says s) → r ≡ s
+pub record Tells {R A : Type 0} (says : R → Answer A) (Fits : R → Type 0) (number : Answer A → ℕ) : Type 0 where
+  pub byte : TopByte says Fits number
+  pub tells : (r s : R) → Fits r → Fits s → number (says r) ≡ number (says s) → r ≡ s
 
 -- bits 48 to 55 of the number of a state or a capability
-pub record KindByte {R A : Type 0} (says : R → Answer A) (Within : R → Type 0) (number : Answer A → ℕ) : Type 0 where
-  pub refused : (r : R) → Within r → isGiven (says r) ≡ false → number (says r) / 2 ^ 48 % 256 ≡ 3
-  pub given : (r : R) → Within r → isGiven (says r) ≡ true → number (says r) / 2 ^ 48 % 256 ≤ 2
+pub record KindByte {R A : Type 0} (says : R → Answer A) (Fits : R → Type 0) (number : Answer A → ℕ) : Type 0 where
+  pub refused : (r : R) → Fits r → isGiven (says r) ≡ false → number (says r) / 2 ^ 48 % 256 ≡ 3
+  pub given : (r : R) → Fits r → isGiven (says r) ≡ true → number (says r) / 2 ^ 48 % 256 ≤ 2
 
 -- which file a merge refuses, and the position in it
 abbrev pub whichOf : Merged → ℕ
@@ -111,12 +106,10 @@ pub record Numbers : Type 0 where
   pub compiled : Tells saysCompiled (λ r. Bounded (saysCompiled r)) (numbered (λ n. n))
   pub name : Tells saysName NameWithin (numbered (λ w. w))
   pub listed : (k : Kind) (p : Place) → isGiven (naming k p) ≡ true → numbered (λ w. w) (naming k p) < 2 ^ 56
-  -- the top byte is right of every expansion; within the bounds the number tells it
-  pub expanded : TopByte saysExpansion Any expansionNumber
-  pub expansion : Tells saysExpansion ExpansionWithin expansionNumber
+  pub expansion : Tells saysExpansion ExpansionWithin (numbered countsCode)
   -- opening answers 0 and fills an array, which tells what it gives; a refusal's number tells the refusal
   pub opened : TopByte saysOpened OpenedWithin (numbered none)
-  -- a refused file's position stands in the bits below, of opening and of listing
+  -- a refused file's position stands in the bits below
   pub position : (r : FileRefusal) → FileWithin r → numbered none (saysOpened (O.Refused r)) % 2 ^ 48 ≡ filePosition r
   pub list : Tells saysListed ValueFits (numbered none)
   pub array : Injective openingArray

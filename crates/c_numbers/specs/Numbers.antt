@@ -1,6 +1,6 @@
 -- Each answer as one 64-bit number (include/terminfo_c.h says the same in words). Assumes nothing.
 use mathlib.Core.List.{List, [], _∷_}
-use Prim.Native.Nat.{ℕ, _+_, _*_, _%_, _^_, _≤_, _<_}
+use Prim.Native.Nat.{ℕ, _+_, _*_, _^_, _≤_, _<_}
 use lib.Dec.{leb}
 use lib.ListN.{getD}
 use Rattle.base.specs.If.{if_then_else_}
@@ -92,11 +92,9 @@ openingArray o =
     ∷ o .tables .«booleans_at» ∷ o .tables .«numbers_at» ∷ o .tables .«strings_at» ∷ o .tables .«table_at»
     ∷ o .beyond .booleans ∷ o .beyond .numbers ∷ o .beyond .strings ∷ []
 
--- the refusal's number above the first value that it gives; or the steps above the output's length, in 24 bits each.
--- A string has at most 1,000 items, so that values, steps and lengths are far below these bounds
-unfoldable pub expansionNumber : Answer Counts → ℕ
-expansionNumber (refused n v) = n * 2 ^ 56 + getD v 0 0 % 2 ^ 56
-expansionNumber (gives c) = c .steps % 2 ^ 24 * 2 ^ 24 + c .length % 2 ^ 24
+-- an expansion's steps above its output's length, in 24 bits each
+abbrev pub countsCode : Counts → ℕ
+countsCode c = c .steps * 2 ^ 24 + c .length
 
 -- ---- what keeps the numbers below their bits: parts lie in a file, and so does what is written
 

@@ -9,10 +9,11 @@ ghost use Rattle.names.specs.Finding.{saysFound};
 ghost use Rattle.names.specs.Naming.{saysName};
 ghost use Rattle.text.specs.Compiling.{saysCompiled};
 ghost use Rattle.building_laws.specs.Values.{Bounded};
-ghost use Rattle.expansion.specs.Expanding.{saysExpansion};
+ghost use Rattle.expansion.specs.Limits.{stringMost};
+ghost use Rattle.expansion.specs.Expanding.{saysExpansion, Within};
 ghost use Rattle.c_numbers.specs.Numbers.{numbered, mergingNumber, partCode, refusedNumber};
 ghost use Rattle.c_numbers.specs.Numbers.{booleanNumber, numberNumber, stringNumber};
-ghost use Rattle.c_numbers.specs.Numbers.{openingArray, expansionNumber, capabilityNumber};
+ghost use Rattle.c_numbers.specs.Numbers.{openingArray, countsCode, capabilityNumber};
 ghost use Rattle.c_numbers.specs.Numbers.{NamesWithin, StringWithin, WrittenWithin, MergedWithin, FoundWithin};
 ghost use Rattle.c_numbers.specs.Numbers.{FileWithin};
 use entry::Beyond;
@@ -177,19 +178,20 @@ pub fn name_number(n: Name) -> u64
     }
 }
 
+// An expansion of a string of at most 1,000 bytes: its steps and its output's length are within their bits.
 pub fn expansion_number(e: Expansion) -> u64
-    ensures { λ r. ⌜ r ≡ expansionNumber (saysExpansion e) ⌝ }
+    requires { ⌜ Within stringMost e ⌝ }
+    ensures { λ r. ⌜ r ≡ numbered countsCode (saysExpansion e) ⌝ }
 {
     let refusal = top(refusal_numbers::of_expansion(e));
     match e {
-        Expansion::Done { length, steps } => (steps as u64) % START * START
-            + (length as u64) % START,
+        Expansion::Done { length, steps } => (steps as u64) * START + length as u64,
         Expansion::Place => refusal,
         Expansion::Length => refusal,
-        Expansion::Malformed(i) => refusal + (i as u64) % TOP,
-        Expansion::Empty(i) => refusal + (i as u64) % TOP,
-        Expansion::Full(i) => refusal + (i as u64) % TOP,
-        Expansion::Room(n) => refusal + (n as u64) % TOP,
+        Expansion::Malformed(i) => refusal + i as u64,
+        Expansion::Empty(i) => refusal + i as u64,
+        Expansion::Full(i) => refusal + i as u64,
+        Expansion::Room(n) => refusal + n as u64,
     }
 }
 

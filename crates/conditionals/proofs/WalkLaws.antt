@@ -59,15 +59,15 @@ left-end s i k h = checked-end (length s) s i k h
 
 -- ---- the number kept stays small
 
-abbrev pub keptOf : Turn → ℕ
+abbrev keptOf : Turn → ℕ
 keptOf Stop = 0
 keptOf (Go k) = k
 
-pub kept-if : (n : ℕ) (b : Bool) (x y : Turn) → (b ≡ true → keptOf x ≤ n) → (b ≡ false → keptOf y ≤ n) → keptOf (if b then x else y) ≤ n
+kept-if : (n : ℕ) (b : Bool) (x y : Turn) → (b ≡ true → keptOf x ≤ n) → (b ≡ false → keptOf y ≤ n) → keptOf (if b then x else y) ≤ n
 kept-if n true x y p q = p refl
 kept-if n false x y p q = q refl
 
-pub kept-go : (n k : ℕ) (t : Turn) → keptOf t ≤ n → t ≡ Go k → k ≤ n
+kept-go : (n k : ℕ) (t : Turn) → keptOf t ≤ n → t ≡ Go k → k ≤ n
 kept-go n k t h q = let p : keptOf t ≡ k = ap keptOf q in rw (← p) h
 
 kept-most : (c : Class) (k : ℕ) → k ≤ nestedMost → keptOf (nested c k) ≤ nestedMost

@@ -1,11 +1,17 @@
-// The form of a parameterized string, checked item by item, and passing over items (document 01: Expansion; Numbers
-// of refusal, 14). Proved: `nest` is nested, `form_from` is formLeft and `pass` is as PassedAs says, of specs/, for
-// each string and place. Assumed: nothing. The number kept along the items holds the open conditionals, two bits
-// each, the innermost lowest: 1 a condition from `%?` on, 2 a body, 3 what follows `%e`.
+// The check for 14: the form of a parameterized string, item by item (document 01: Expansion; Numbers of refusal, 14).
+// Proved: `nest` is nested of specs/, and `form_of` is formOf of the crate expansion for each string. Assumed:
+// nothing. The number kept along the items holds the open conditionals, two bits each, the innermost lowest: 1 a
+// condition from `%?` on, 2 a body, 3 what follows `%e`. Items that are quickly told are passed by `scan`, any other
+// is judged by its class.
 ghost use mathlib.Core.Path.{_≡_};
-ghost use Prim.Native.Nat.{_≤_, _<_};
-ghost use Rattle.conditionals.specs.Walk.{nestedMost, keptMost, nested, formLeft, innerAfter, plainEnd, endsAt};
-ghost use Rattle.conditionals.specs.Walk.{WalkedAs, PassedAs};
+ghost use mathlib.Core.Bool.{true};
+ghost use Prim.Native.Nat.{_+_, _≤_, _<_};
+ghost use lib.ListN.{length};
+ghost use Rattle.expansion.specs.Form.{formOf};
+ghost use Rattle.conditionals.specs.Walk.{nestedMost, nested};
+ghost use Rattle.conditionals.specs.Scan.{ArgumentTested, PercentAt, QuickAs, ScannedAs};
+ghost use Rattle.conditionals.specs.Scan.{QuickIf, QuickBraced, QuickArgument};
+ghost use Rattle.conditionals.specs.declared.Quick.the-variants as Quick;
 use expansion::Class;
 use expansion::Form;
 
@@ -18,17 +24,18 @@ pub enum Turn {
     Stop,
 }
 
-// Where a walk stopped or ended, with the number kept there; or the place of a wrong item.
-enum Walked {
-    Stopped { next: usize, kept: u64 },
-    Ended { next: usize, kept: u64 },
-    Wrong(usize),
+// What is quickly told of a place: the class of its item and the place behind it; that `%?`, an argument and `%t`
+// stand there, with the place behind them; or nothing.
+enum Quick {
+    Item { class: Class, next: usize },
+    Test(usize),
+    Slow,
 }
 
-// The place passed to with the number kept there; or the place of a wrong item.
-pub enum Passed {
-    To { next: usize, kept: u64 },
-    Wrong(usize),
+// How far a scan has come: a place, and the number kept there.
+struct Scanned {
+    at: usize,
+    kept: u64,
 }
 
 // What an item of a class does to the open conditionals.
@@ -62,133 +69,198 @@ pub fn nest(class: Class, kept: u64) -> Turn
     }
 }
 
-// What an item of a class does to the number of inner conditionals open; at 0, `%;` stops if ends is set, and `%e` if
-// elses is.
-fn opened(class: Class, ends: bool, elses: bool, inner: u64) -> Turn
-    requires { ⌜ inner < keptMost ⌝ }
-    ensures { λ r. ⌜ r ≡ innerAfter ends elses class inner ⌝ }
+fn quick_item(class: Class, next: usize) -> Quick
+    ensures { λ r. ⌜ r ≡ Quick.Item class next ⌝ }
 {
-    match class {
-        Class::Plain => Turn::Go(inner),
-        Class::If => Turn::Go(inner + 1),
-        Class::Then => Turn::Go(inner),
-        Class::Else => if inner == 0 {
-            if elses { Turn::Stop } else { Turn::Go(inner) }
-        } else {
-            Turn::Go(inner)
-        },
-        Class::End => if inner == 0 {
-            if ends { Turn::Stop } else { Turn::Go(inner) }
-        } else {
-            Turn::Go(inner - 1)
-        },
-        Class::Wrong => Turn::Go(inner),
+    Quick::Item {
+        class: class,
+        next: next,
     }
 }
 
-// Checks the items from a place on, up to and with the first at which `opened` stops.
-fn walk(s: &[u8], from: usize, before: u64, ends: bool, elses: bool) -> Walked
+// Whether `%p`, a digit from 1 on and `%t` stand at a place.
+fn tests_argument(s: &[u8], i: usize) -> bool
+    requires { ⌜ i ≤ length (now s) ⌝ }
+    ensures { λ r. ⌜ (r ≡ true → ArgumentTested (now (s .entry)) i) ⌝ }
+{
+    if s.len() < i + 5 {
+        return false;
+    }
+    if s[i] != b'%' {
+        return false;
+    }
+    if s[i + 1] != b'p' {
+        return false;
+    }
+    if !item_parts::is_nonzero(s[i + 2]) {
+        return false;
+    }
+    if s[i + 3] != b'%' {
+        return false;
+    }
+    s[i + 4] == b't'
+}
+
+// The `%?` before a place.
+fn quick_if(s: &[u8], i: usize) -> Quick
+    requires { ⌜ i ≤ length (now s) ⌝ }
+    ensures { λ r. ⌜ QuickIf (now (s .entry)) i r ⌝ }
+{
+    if tests_argument(s, i) {
+        Quick::Test(i + 5)
+    } else {
+        quick_item(Class::If, i)
+    }
+}
+
+// A constant of one or two digits, from behind its `{` on.
+fn quick_braced(s: &[u8], j: usize) -> Quick
+    requires { ⌜ j ≤ length (now s) ⌝ }
+    ensures { λ r. ⌜ QuickBraced (now (s .entry)) j r ⌝ }
+{
+    if s.len() < j + 3 {
+        return Quick::Slow;
+    }
+    if !item_parts::is_digit(s[j]) {
+        return Quick::Slow;
+    }
+    if s[j + 1] == b'}' {
+        return quick_item(Class::Plain, j + 2);
+    }
+    if !item_parts::is_digit(s[j + 1]) {
+        return Quick::Slow;
+    }
+    if s[j + 2] == b'}' {
+        return quick_item(Class::Plain, j + 3);
+    }
+    Quick::Slow
+}
+
+// An argument, by its digit.
+fn quick_argument(s: &[u8], k: usize) -> Quick
+    requires { ⌜ k < length (now s) ⌝ }
+    ensures { λ r. ⌜ QuickArgument (now (s .entry)) k r ⌝ }
+{
+    if item_parts::is_nonzero(s[k]) {
+        quick_item(Class::Plain, k + 1)
+    } else {
+        Quick::Slow
+    }
+}
+
+// The item whose `%` is at a place with two bytes behind it.
+fn quick_percent(s: &[u8], i: usize) -> Quick
+    requires { ⌜ PercentAt (now s) i ⌝ }
+    ensures { λ r. ⌜ QuickAs (now (s .entry)) i r ⌝ }
+{
+    let c = s[i + 1];
+    let next = i + 2;
+    match c {
+        b'p' => quick_argument(s, next),
+        b'{' => quick_braced(s, next),
+        b'%' => quick_item(Class::Plain, next),
+        b'c' => quick_item(Class::Plain, next),
+        b'd' => quick_item(Class::Plain, next),
+        b'o' => quick_item(Class::Plain, next),
+        b'x' => quick_item(Class::Plain, next),
+        b'X' => quick_item(Class::Plain, next),
+        b'+' => quick_item(Class::Plain, next),
+        b'-' => quick_item(Class::Plain, next),
+        b'*' => quick_item(Class::Plain, next),
+        b'/' => quick_item(Class::Plain, next),
+        b'm' => quick_item(Class::Plain, next),
+        b'&' => quick_item(Class::Plain, next),
+        b'|' => quick_item(Class::Plain, next),
+        b'^' => quick_item(Class::Plain, next),
+        b'=' => quick_item(Class::Plain, next),
+        b'>' => quick_item(Class::Plain, next),
+        b'<' => quick_item(Class::Plain, next),
+        b'A' => quick_item(Class::Plain, next),
+        b'O' => quick_item(Class::Plain, next),
+        b'!' => quick_item(Class::Plain, next),
+        b'~' => quick_item(Class::Plain, next),
+        b'i' => quick_item(Class::Plain, next),
+        b'?' => quick_if(s, next),
+        b't' => quick_item(Class::Then, next),
+        b'e' => quick_item(Class::Else, next),
+        b';' => quick_item(Class::End, next),
+        _ => Quick::Slow,
+    }
+}
+
+// What is quickly told of a place with two bytes behind it.
+fn quick_at(s: &[u8], i: usize) -> Quick
+    requires { ⌜ i + 2 < length (now s) ⌝ }
+    ensures { λ r. ⌜ QuickAs (now (s .entry)) i r ⌝ }
+{
+    let c = s[i];
+    if b'%' < c {
+        return quick_item(Class::Plain, i + 1);
+    }
+    if c == b'%' {
+        return quick_percent(s, i);
+    }
+    if c == 0 {
+        return Quick::Slow;
+    }
+    quick_item(Class::Plain, i + 1)
+}
+
+// Passes over the items that are quickly told, and stops at any other, right or wrong, and at the last two places.
+fn scan(s: &[u8], from: usize, before: u64) -> Scanned
     requires { ⌜ before ≤ nestedMost ⌝ }
-    ensures { λ r. ⌜ WalkedAs (now (s .entry)) from before ends elses r ⌝ }
+    ensures { λ r. ⌜ ScannedAs (now (s .entry)) from before r ⌝ }
 {
     let mut i: usize = from;
     let mut kept: u64 = before;
-    let mut inner: u64 = 0;
-    while i < s.len() {
+    let most = if s.len() < 2 { 0 } else { s.len() - 2 };
+    while i < most {
+        match quick_at(s, i) {
+            Quick::Item { class, next } => match nest(class, kept) {
+                Turn::Go(k) => {
+                    i = next;
+                    kept = k;
+                }
+                Turn::Stop => return Scanned { at: i, kept: kept },
+            },
+            Quick::Test(next) => {
+                if NEST_FULL <= kept {
+                    return Scanned { at: i, kept: kept };
+                }
+                i = next;
+                kept = kept * 4 + 2;
+            }
+            Quick::Slow => return Scanned { at: i, kept: kept },
+        }
+    }
+    Scanned { at: i, kept: kept }
+}
+
+// The form of a string.
+pub fn form_of(s: &[u8]) -> Form
+    ensures { λ r. ⌜ r ≡ formOf (now (s .entry)) ⌝ }
+{
+    let mut i: usize = 0;
+    let mut kept: u64 = 0;
+    loop {
+        let p = scan(s, i, kept);
+        i = p.at;
+        kept = p.kept;
+        if s.len() <= i {
+            if kept == 0 {
+                return Form::Right;
+            }
+            return Form::Wrong(s.len());
+        }
         let c = item_classes::class_at(s, i);
         let class = c.class;
         let next = c.next;
         match nest(class, kept) {
-            Turn::Go(k) => match opened(class, ends, elses, inner) {
-                Turn::Go(n) => {
-                    i = next;
-                    kept = k;
-                    inner = n;
-                }
-                Turn::Stop => return Walked::Stopped {
-                    next: next,
-                    kept: k,
-                },
-            },
-            Turn::Stop => return Walked::Wrong(i),
-        }
-    }
-    Walked::Ended {
-        next: i,
-        kept: kept,
-    }
-}
-
-// The place behind the bytes from a place on that are items by themselves.
-fn plain_end(s: &[u8], from: usize) -> usize
-    ensures { λ r. ⌜ r ≡ plainEnd (now (s .entry)) from ⌝ }
-{
-    let mut i: usize = from;
-    while i < s.len() {
-        if s[i] == b'%' {
-            return i;
-        }
-        if s[i] == 0 {
-            return i;
-        }
-        i += 1;
-    }
-    i
-}
-
-// Whether `%;` stands at a place.
-fn is_end(s: &[u8], i: usize) -> bool
-    ensures { λ r. ⌜ r ≡ endsAt (now (s .entry)) i ⌝ }
-{
-    if i < s.len() {
-        if s[i] == b'%' {
-            if i + 1 < s.len() {
-                return s[i + 1] == b';';
+            Turn::Go(k) => {
+                i = next;
+                kept = k;
             }
+            Turn::Stop => return Form::Wrong(i),
         }
-    }
-    false
-}
-
-// Checks the items passed over from a place on, up to and with the level's `%;`, or its own `%e` where elses is set.
-pub fn pass(s: &[u8], from: usize, kept: u64, elses: bool) -> Passed
-    requires { ⌜ kept ≤ nestedMost ⌝ }
-    ensures { λ r. ⌜ PassedAs (now (s .entry)) from kept elses r ⌝ }
-{
-    let i = plain_end(s, from);
-    if is_end(s, i) {
-        if 2 <= kept % 4 {
-            return Passed::To {
-                next: i + 2,
-                kept: kept / 4,
-            };
-        }
-    }
-    match walk(s, i, kept, true, elses) {
-        Walked::Stopped { next, kept } => Passed::To {
-            next: next,
-            kept: kept,
-        },
-        Walked::Ended { next, kept } => Passed::To {
-            next: next,
-            kept: kept,
-        },
-        Walked::Wrong(p) => Passed::Wrong(p),
-    }
-}
-
-// The form of a string from a place on. This walk stops at no item.
-pub fn form_from(s: &[u8], from: usize, kept: u64) -> Form
-    requires { ⌜ kept ≤ nestedMost ⌝ }
-    ensures { λ r. ⌜ r ≡ formLeft (now (s .entry)) from kept ⌝ }
-{
-    match walk(s, from, kept, false, false) {
-        Walked::Stopped { next: _, kept: _ } => Form::Right,
-        Walked::Ended { next: _, kept } => if kept == 0 {
-            Form::Right
-        } else {
-            Form::Wrong(s.len())
-        },
-        Walked::Wrong(p) => Form::Wrong(p),
     }
 }

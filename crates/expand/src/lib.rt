@@ -13,7 +13,7 @@ use expansion::Lasting;
 const STRING_MOST: usize = 1000;
 
 // The size of the short buffer: a longer output is run twice.
-const SHORT_OUTPUT: usize = 256;
+const SHORT_OUTPUT: usize = 128;
 
 // Expands a string into the free part of the buffer from place at on, and changes the lasting variables in place; a
 // refusal leaves both. The output holds no NUL (`expanding-no-nul` of output_laws/specs/NoNul.antt).
@@ -24,9 +24,9 @@ pub fn expand_lent(
     out: &mut [u8],
     at: usize,
 ) -> Expansion
-    ensures { λ r. ⌜ LentAs (expanding (now (string .entry)) arguments (now (lasting .entry))
-        (length (now (out .entry))) at) (now (lasting .entry)) (now (lasting .exit)) (now (out .entry)) at
-        (now (out .exit)) r ⌝ }
+    ensures { λ r. ⌜ LentAs (length (now (string .entry))) (expanding (now (string .entry)) arguments
+        (now (lasting .entry)) (length (now (out .entry))) at) (now (lasting .entry)) (now (lasting .exit))
+        (now (out .entry)) at (now (out .exit)) r ⌝ }
 {
     if out.len() < at {
         return Expansion::Place;
@@ -47,8 +47,9 @@ pub fn expand(
     out: &mut [u8],
     at: usize,
 ) -> Expanded
-    ensures { λ r. ⌜ ExpandedAs (expanding (now (string .entry)) arguments (lasting .values)
-        (length (now (out .entry))) at) (lasting .values) (now (out .entry)) at (now (out .exit)) r ⌝ }
+    ensures { λ r. ⌜ ExpandedAs (length (now (string .entry))) (expanding (now (string .entry)) arguments
+        (lasting .values) (length (now (out .entry))) at) (lasting .values) (now (out .entry)) at
+        (now (out .exit)) r ⌝ }
 {
     let mut kept = lasting.values;
     let answer = expand_lent(string, arguments, &mut kept, out, at);

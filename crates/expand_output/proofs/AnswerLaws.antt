@@ -1,90 +1,85 @@
 -- Laws of the answers to a call: what a run's answer says of them, and output that goes into a part of a buffer.
 -- Assumes nothing.
-use mathlib.Core.Path.{_≡_, refl, sym, ap, _∙_, subst}
+use mathlib.Core.Path.{_≡_, refl, sym, ap, _∙_}
 use mathlib.Core.Bool.{Bool, true, false}
-use mathlib.Core.List.{List, [], _∷_, _++_, append-assoc}
-use Prim.Native.Nat.{ℕ, _+_, _≤_, _<_}
+use mathlib.Core.List.{List, _∷_, []}
+use Prim.Native.Nat.{ℕ, _+_, _-_, _≤_, _<_}
 use native.Mathlib.Omega.{arith}
 use lib.Dec.{leb}
 use lib.IntN.{ℤ}
-use lib.ListN.{length, take, drop, take-append-drop, length-drop}
-use lib.Seq.{take-at, length-take-le, drop-append-le, drop-drop}
+use lib.ListN.{length}
 use borrow.Author.Tests.{le-leb, lt-leb, leb-true}
-use borrow.Rule.Slice.PartMut.{midOf, putMid, put-same}
+use borrow.Rule.Slice.PartMut.{midOf, putMid, mid-len, put-same}
 use Rattle.base.specs.Overwrite.{putAt}
-use Rattle.base.proofs.OverwriteLaws.{put-front}
 use Rattle.base.specs.Answer.{Answer, refused, gives}
+use Rattle.expansion.specs.Limits.{roomFor}
 use Rattle.expansion.specs.declared.Form.{Form}
 use Rattle.expansion.specs.declared.Form.the-variants as F
 use Rattle.expansion.specs.declared.Expansion.{Expansion}
 use Rattle.expansion.specs.declared.Expansion.the-variants as E
+use Rattle.expansion.specs.Form.{formOf}
 use Rattle.expansion.specs.Machine.{Machine, Outcome, finished, failed}
-use Rattle.expansion.specs.Expanding.{Expanding, ended, formed, saysExpansion}
+use Rattle.expansion.specs.Expanding.{Expanding, ended, formed, saysExpansion, Within}
+use Rattle.level_laws.proofs.RightLaws.{wrong-inside}
 use Rattle.expand_run.specs.declared.Ran.{Ran}
 use Rattle.expand_run.specs.declared.Ran.the-variants.{Done}
+use Rattle.expand_run.specs.Runs.{saysRan, RanAs}
 use Rattle.expand_output.specs.Answers.{LentAs}
-use Rattle.expand_run.specs.Runs.{saysRan, PutAs, RanAs, RunAs}
+use Rattle.expand_output.proofs.BufferLaws.{part-put}
 
 -- a run that ends well does not fail
-no-failure : (r : Ran) (n k j : ℕ) (is : List ℕ) → saysRan r ≡ refused j is → r ≡ Done n k → ⊥
-no-failure r n k j is h d = let e = ap saysRan d in let y : _≡_ {A = ℕ} 0 1 = cc in (let z : ⊥ = omega arith in z)
+pub no-failure : {r : Ran} {l k j : ℕ} {is : List ℕ} → r ≡ Done l k → saysRan r ≡ refused j is → ⊥
+no-failure d h = let e = ap saysRan d in let y : _≡_ {A = ℕ} 0 1 = cc in (let z : ⊥ = omega arith in z)
 
--- so the string of a run that ends well is well formed
-pub run-done : (f : Form) (y : Outcome) (b b′ : List ℕ) (r : Ran) (v : List ℤ) (n k : ℕ) → RunAs f y b r v b′ → r ≡ Done n k → (f ≡ F.Right) × (RanAs y r v × PutAs y b b′)
-run-done F.Right y b b′ r v n k h d = (refl, h)
-run-done (F.Wrong i) y b b′ r v n k h d = absurd (no-failure r n k 14 (i ∷ []) (ap saysRan h) d)
+-- a run that ends well has finished
+pub record Finished (y : Outcome) (v : List ℤ) (l k : ℕ) : Type 0 where
+  pub end : Machine
+  pub output : List ℕ
+  pub is : y ≡ finished end output k
+  pub lasting : v ≡ end .lasting
+  pub long : length output ≡ l
 
-module _ (room : ℕ) (before : List ℤ) (b : List ℕ) where
+pub done-finished : (y : Outcome) (v : List ℤ) {r : Ran} {l k : ℕ} → r ≡ Done l k → RanAs y r v → Finished y v l k
+done-finished (finished m o j) v {r} {l} {k} d h =
+    let q = h .0 in
+    let e : length o ≡ l = cc in
+    let g : j ≡ k = cc in
+    record { end = m; output = o; is = ap (finished m o) g; lasting = h .1; long = e }
+done-finished (failed j i) v d h = absurd (no-failure d h)
+
+module _ (n room : ℕ) (v : List ℤ) (b : List ℕ) where
   -- a run that fails
-  pub answer-refused : (f : Form) (y : Outcome) (c c′ : List ℕ) (r : Ran) (x : Expansion) (v : List ℤ) (n : ℕ) (is : List ℕ) → RunAs f y c r v c′ → saysRan r ≡ refused n is
-      → saysExpansion x ≡ refused n is → LentAs (formed f (ended y room)) before before b 0 b x
-  unfolding formed ended
-  answer-refused F.Right (finished m o k) c c′ r x v n is h e g = absurd (no-failure r (length o) k n is e (h .0 .0))
-  answer-refused F.Right (failed k i) c c′ r x v n is h e g = let q = h .0 in record { answer = cc; lasting = refl; output = refl }
-  answer-refused (F.Wrong i) y c c′ r x v n is h e g = let q = ap saysRan h in record { answer = cc; lasting = refl; output = refl }
+  pub answer-refused : (y : Outcome) (r : Ran) (w : List ℤ) {x : Expansion} {k : ℕ} {is : List ℕ} → RanAs y r w → saysRan r ≡ refused k is
+      → saysExpansion x ≡ refused k is → Within n x → LentAs n (ended y room) v v b 0 b x
+  unfolding ended
+  answer-refused (finished m o j) r w h e g u = absurd (no-failure (h .0) e)
+  answer-refused (failed j i) r w h e g u = let q = h in record { answer = cc; lasting = refl; output = refl; within = u }
 
-  -- a run that ends well
-  pub answer-room : (f : Form) (y : Outcome) (r : Ran) (v : List ℤ) (n k : ℕ) → f ≡ F.Right → RanAs y r v → r ≡ Done n k → room < n
-      → LentAs (formed f (ended y room)) before before b 0 b (E.Room n)
-  unfolding formed ended
-  answer-room f (finished m o j) r v n k w h d l =
-      let q = h .0 in
-      let e : n ≡ length o = cc in
-      rw (w, lt-leb (length o) room (omega arith)) (record { answer = ap (λ (x : ℕ). refused 8 (x ∷ [])) e; lasting = refl; output = refl })
-  answer-room f (failed j i) r v n k w h d l = absurd (no-failure r n k j (i ∷ []) h d)
+  -- a run that ends well, and its output
+  pub answer-room : {y : Outcome} {w : List ℤ} {l k : ℕ} → Finished y w l k → room < l → l ≤ roomFor n
+      → LentAs n (ended y room) v v b 0 b (E.Room l)
+  unfolding ended
+  answer-room {y} {w} {l} {k} f h u =
+      rw (f .is, lt-leb (length (f .output)) room (omega (arith, f .long)))
+      (record { answer = ap (λ (x : ℕ). refused 8 (x ∷ [])) (sym (f .long)); lasting = refl; output = refl; within = u })
 
-  pub answer-given : (f : Form) (y : Outcome) (r : Ran) (v : List ℤ) (b′ : List ℕ) (n k : ℕ) → f ≡ F.Right → RanAs y r v → r ≡ Done n k → n ≤ room
-      → ((m : Machine) (o : List ℕ) → y ≡ finished m o k → length o ≡ n → b′ ≡ putAt b 0 o) → LentAs (formed f (ended y room)) before v b 0 b′ (E.Done n k)
-  unfolding formed ended
-  answer-given f (finished m o j) r v b′ n k w h d l p =
-      let q = h .0 in
-      let e : n ≡ length o = cc in
-      let g : k ≡ j = cc in
-      rw (w, le-leb (length o) room (omega arith)) (record { answer = rw (e, g); lasting = h .1; output = p m o (ap (finished m o) (sym g)) (sym e) })
-  answer-given f (failed j i) r v b′ n k w h d l p = absurd (no-failure r n k j (i ∷ []) h d)
+  pub answer-given : {y : Outcome} {w : List ℤ} {b′ : List ℕ} {l k : ℕ} (f : Finished y w l k) → l ≤ room → Within n (E.Done l k)
+      → b′ ≡ putAt b 0 (f .output) → LentAs n (ended y room) v w b 0 b′ (E.Done l k)
+  unfolding ended
+  answer-given {y} {w} {b′} {l} {k} f h u e =
+      rw (f .is, le-leb (length (f .output)) room (omega (arith, f .long)))
+      (record { answer = rw (f .long); lasting = f .lasting; output = e; within = u })
 
--- the output of a run that ends well, where it fits
-pub put-fits : (y : Outcome) (m : Machine) (o : List ℕ) (n k : ℕ) (b b′ : List ℕ) → PutAs y b b′ → y ≡ finished m o k → length o ≡ n → n ≤ length b → b′ ≡ putAt b 0 o
-put-fits y m o n k b b′ p q e l = subst (λ (x : Outcome). PutAs x b b′) q p (omega arith)
+-- a string whose form is wrong
+pub answer-malformed : (s : List ℕ) (a : Answer Expanding) (v : List ℤ) (b : List ℕ) {p : ℕ} → formOf s ≡ F.Wrong p
+    → LentAs (length s) (formed (formOf s) a) v v b 0 b (E.Malformed p)
+unfolding formed
+answer-malformed s a v b e = rw e (record { answer = refl; lasting = refl; output = refl; within = wrong-inside s e })
 
--- ---- parts of a buffer
-
--- the first bytes of a buffer that holds o from its first byte on
-pub front-is : (c c′ o : List ℕ) (n : ℕ) → length o ≡ n → c′ ≡ putAt c 0 o → take n c′ ≡ o
-front-is c c′ o n e q = ap (take n) (q ∙ put-front c o) ∙ take-at o (drop (length o) c) n e
-
-part-put : (at k : ℕ) (b o : List ℕ) → at + k ≤ length b → length o ≤ k → putMid at k b (putAt (midOf at k b) 0 o) ≡ putAt b at o
-unfolding putAt
-part-put at k b o h l =
-    let d : List ℕ = drop at b in
-    let f : length (take k d) ≡ k = length-take-le k d (rw (length-drop at b) (omega arith)) in
-    let g : drop (length o) (take k d) ++ drop k d ≡ drop (at + length o) b =
-    sym (drop-append-le (length o) (take k d) (drop k d) (omega arith)) ∙ ap (drop (length o)) (take-append-drop k d) ∙ drop-drop (length o) at b in
-    ap (λ (x : List ℕ). take at b ++ (x ++ drop k d)) (put-front (take k d) o)
-    ∙ ap (λ (x : List ℕ). take at b ++ x) (append-assoc o (drop (length o) (take k d)) (drop k d) ∙ ap (λ (x : List ℕ). o ++ x) g)
+-- ---- a part of a buffer
 
 -- what is given fits the room
-pub given-fits : (f : Form) (y : Outcome) (room : ℕ) (x : Expanding) → formed f (ended y room) ≡ gives x → length (x .output) ≤ room
+given-fits : (f : Form) (y : Outcome) (room : ℕ) (x : Expanding) → formed f (ended y room) ≡ gives x → length (x .output) ≤ room
 unfolding formed ended
 given-fits (F.Wrong i) y room x e = absurd (let z : _≡_ {A = ℕ} 0 1 = cc in (let u : ⊥ = omega arith in u))
 given-fits F.Right (failed n i) room x e = absurd (let z : _≡_ {A = ℕ} 0 1 = cc in (let u : ⊥ = omega arith in u))
@@ -94,9 +89,19 @@ given-fits F.Right (finished m o n) room x e = by-test (leb (length o) room) ref
     by-test true t q = let u = rw t at q in let w : o ≡ x .output = cc in rw (← w) (leb-true (length o) room t)
     by-test false t q = let u = rw t at q in absurd (let z : _≡_ {A = ℕ} 0 1 = cc in (let w : ⊥ = omega arith in w))
 
--- a call that is lent the part of k bytes from at on
-pub answer-part : (a : Answer Expanding) (v v′ : List ℤ) (b p : List ℕ) (at k : ℕ) (r : Expansion) → at + k ≤ length b → ((x : Expanding) → a ≡ gives x → length (x .output) ≤ k)
-    → LentAs a v v′ (midOf at k b) 0 p r → LentAs a v v′ b at (putMid at k b p) r
-answer-part (refused n is) v v′ b p at k r h f l = record { answer = l .answer; lasting = l .lasting; output = ap (putMid at k b) (l .output) ∙ put-same at k b }
-answer-part (gives x) v v′ b p at k r h f l =
-    record { answer = l .answer; lasting = l .lasting; output = ap (putMid at k b) (l .output) ∙ part-put at k b (x .output) h (f x refl) }
+-- an answer whose output fits the part of k bytes from at on
+part-answer : (a : Answer Expanding) {n : ℕ} {v v′ : List ℤ} (b : List ℕ) {p : List ℕ} (at k : ℕ) {r : Expansion} → at + k ≤ length b
+    → ((x : Expanding) → a ≡ gives x → length (x .output) ≤ k)
+    → LentAs n a v v′ (midOf at k b) 0 p r → LentAs n a v v′ b at (putMid at k b p) r
+part-answer (refused m is) b at k h f l =
+    record { answer = l .answer; lasting = l .lasting; output = ap (putMid at k b) (l .output) ∙ put-same at k b; within = l .within }
+part-answer (gives x) b at k h f l =
+    record { answer = l .answer; lasting = l .lasting; output = ap (putMid at k b) (l .output) ∙ part-put at k b (x .output) h (f x refl); within = l .within }
+
+-- a call that is lent the part from at on
+pub answer-part : (f : Form) (y : Outcome) {n : ℕ} {v v′ : List ℤ} (b : List ℕ) {p : List ℕ} (at : ℕ) {r : Expansion} → at ≤ length b
+    → LentAs n (formed f (ended y (length (midOf at (length b - at) b)))) v v′ (midOf at (length b - at) b) 0 p r
+    → LentAs n (formed f (ended y (length b - at))) v v′ b at (putMid at (length b - at) b p) r
+answer-part f y b at h l =
+    let e : length (midOf at (length b - at) b) ≡ length b - at = mid-len at (length b) b (omega arith) in
+    part-answer (formed f (ended y (length b - at))) b at (length b - at) (omega arith) (given-fits f y (length b - at)) (rw e at l)

@@ -1,1 +1,3 @@
+pub mod BufferLaws
 pub mod AnswerLaws
+mod TurnLaws

@@ -5,10 +5,10 @@ ghost use Prim.Native.Nat.{_≤_};
 ghost use lib.ListN.{length, take};
 ghost use Rattle.base.specs.Overwrite.{putAt};
 ghost use Rattle.expansion.specs.Limits.{stringMost};
+ghost use Rattle.expansion.specs.declared.Form.the-variants.{Right};
 ghost use Rattle.expansion.specs.Form.{formOf};
 ghost use Rattle.expansion.specs.Machine.{run};
 ghost use Rattle.expansion.specs.Expanding.{ended, formed};
-ghost use Rattle.expand_run.specs.Runs.{PutAs};
 ghost use Rattle.expand_output.specs.Answers.{LentAs};
 use expand_run::Ran;
 use expand_run::run;
@@ -27,19 +27,54 @@ fn copy(from: &[u8], n: usize, out: &mut [u8])
     }
 }
 
-// Runs a well formed string once more, for its output alone.
-fn run_out(s: &[u8], arguments: [i32; 9], lasting: &[i32; 26], out: &mut [u8])
-    requires { ⌜ (length (now s) ≤ stringMost) × (formOf (now s) ≡ Form.Right) ⌝ }
-    ensures { λ _. ⌜ PutAs (run (now (s .entry)) arguments (now (lasting .entry))) (now (out .entry))
-        (now (out .exit)) ⌝ }
+// Expands a string whose form is right from the buffer's first byte on. A run prints into the buffer's first bytes, as
+// many as the short buffer keeps, so that a refusal puts them back; a longer output is run once more, for the whole of
+// it. The variables are changed in a copy.
+fn expand_right(
+    s: &[u8],
+    arguments: [i32; 9],
+    lasting: &mut [i32; 26],
+    short: &mut [u8],
+    out: &mut [u8],
+) -> Expansion
+    requires { ⌜ (length (now s) ≤ stringMost) × (formOf (now s) ≡ Right) ⌝ }
+    ensures { λ r. ⌜ LentAs (length (now (s .entry)))
+        (ended (run (now (s .entry)) arguments (now (lasting .entry))) (length (now (out .entry))))
+        (now (lasting .entry)) (now (lasting .exit)) (now (out .entry)) 0 (now (out .exit)) r ⌝ }
 {
-    let mut given = arguments;
-    let mut kept = *lasting;
-    run(s, &mut given, &mut kept, out);
+    let mut end = if short.len() < out.len() {
+        short.len()
+    } else {
+        out.len()
+    };
+    copy(out, end, short);
+    loop {
+        let mut kept = *lasting;
+        match run(s, arguments, &mut kept, &mut out[0..end]) {
+            Ran::Empty(i) => {
+                copy(short, end, out);
+                return Expansion::Empty(i);
+            }
+            Ran::Full(i) => {
+                copy(short, end, out);
+                return Expansion::Full(i);
+            }
+            Ran::Done { length, steps } => {
+                if out.len() < length {
+                    copy(short, end, out);
+                    return Expansion::Room(length);
+                }
+                if length <= end {
+                    *lasting = kept;
+                    return Expansion::Done { length, steps };
+                }
+                end = length;
+            }
+        }
+    }
 }
 
-// Expands a string from the buffer's first byte on. The run prints into the short buffer and changes a copy of the
-// variables, so that a refusal leaves what is lent.
+// Expands a string from the buffer's first byte on: "14 over the whole string" first.
 pub fn expand_into(
     s: &[u8],
     arguments: [i32; 9],
@@ -48,27 +83,12 @@ pub fn expand_into(
     out: &mut [u8],
 ) -> Expansion
     requires { ⌜ length (now s) ≤ stringMost ⌝ }
-    ensures { λ r. ⌜ LentAs (formed (formOf (now (s .entry)))
+    ensures { λ r. ⌜ LentAs (length (now (s .entry))) (formed (formOf (now (s .entry)))
         (ended (run (now (s .entry)) arguments (now (lasting .entry))) (length (now (out .entry)))))
         (now (lasting .entry)) (now (lasting .exit)) (now (out .entry)) 0 (now (out .exit)) r ⌝ }
 {
-    let mut given = arguments;
-    let mut kept = *lasting;
-    match run(s, &mut given, &mut kept, short) {
-        Ran::Empty(i) => Expansion::Empty(i),
-        Ran::Full(i) => Expansion::Full(i),
-        Ran::Wrong(i) => Expansion::Malformed(i),
-        Ran::Done { length, steps } => {
-            if out.len() < length {
-                return Expansion::Room(length);
-            }
-            if short.len() < length {
-                run_out(s, arguments, lasting, out);
-            } else {
-                copy(short, length, out);
-            }
-            *lasting = kept;
-            Expansion::Done { length, steps }
-        }
+    match conditionals::form_of(s) {
+        Form::Right => expand_right(s, arguments, lasting, short, out),
+        Form::Wrong(p) => Expansion::Malformed(p),
     }
 }

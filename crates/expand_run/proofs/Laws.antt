@@ -1,40 +1,50 @@
--- Laws of output, of the stack in an array, of a run by steps, and of the check along it.
+-- Laws of a run by its steps, one turn of the loop for each.
 -- Assumes nothing.
-use mathlib.Core.Path.{_≡_, refl, sym, ap, ap₂, _∙_, subst}
+use mathlib.Core.Path.{_≡_, refl, sym, ap, _∙_}
 use mathlib.Core.Bool.{Bool, true, false}
 use mathlib.Core.List.{List, [], _∷_, _++_, append-nil}
-use Prim.Native.Nat.{ℕ, zero, suc, _+_, _-_, _*_, _≤_, _<_}
-use native.Mathlib.Numerals.{add-one}
+use Prim.Native.Nat.{ℕ, _+_, _-_, _^_, _≤_, _<_}
 use native.Mathlib.Omega.{arith}
 use lib.IntN.{ℤ, pos}
-use lib.ListN.{length, getD, set, drop, length-append, length-set}
-use lib.Seq.{getD-set-same, getD-set-other}
-use borrow.Author.Tests.{lt-ltb, le-ltb, eq-eqb, ne-eqb}
+use lib.ListN.{length, getD, set, replicate, length-append, length-set}
+use mir.Syntax.{w32}
+use mir.Val.{toZ}
+use borrow.Author.Tests.{lt-ltb, le-ltb}
+use Rattle.base.proofs.IfLaws.{below-or}
 use Rattle.base.specs.Overwrite.{putAt}
 use Rattle.base.proofs.OverwriteLaws.{put-nil, put-put}
 use Rattle.expansion.specs.declared.Item.{Item}
+use Rattle.expansion.specs.declared.Item.the-variants as I
+use Rattle.expansion.specs.declared.Form.the-variants.{Right}
 use Rattle.expansion.specs.declared.Lexed.{Lexed}
-use Rattle.expansion.specs.declared.Class.{Class}
-use Rattle.expansion.specs.declared.Form.the-variants as F
-use Rattle.expansion.specs.Limits.{stackMost}
-use Rattle.print.specs.Bounds.{printedMost}
-use Rattle.expansion.specs.Items.{itemAt}
-use Rattle.expansion.specs.Form.{classOf, classAt, formOf}
+use Rattle.expansion.specs.Limits.{stackMost, roomFor}
+use Rattle.expansion.specs.Items.{lexed, itemAt}
+use Rattle.expansion.specs.Form.{formOf}
+use Rattle.expansion.specs.Machine.{Value, Machine, Effect, prints, pushes, stores, increments, toElse, toEnd, printedBy}
+use Rattle.expansion.specs.Machine.{Taken, goesOn, goesToElse, goesToEnd, full, arity, effect, performed, incremented}
+use Rattle.expansion.specs.Machine.{Outcome, finished, failed, run}
+use Rattle.signed.specs.Signed.{isZero}
+use Rattle.item_parts.specs.Right.{Simple}
+use Rattle.item_parts.proofs.Laws.{item-on, item-holds}
+use Rattle.expansion_laws.specs.Passes.{passedTo, passed-on}
+use Rattle.expansion_laws.specs.Steps.{Point, leads, further, stepBy, step}
+use Rattle.expansion_laws.specs.Runs.{runOfRest, runBehind, run-start, run-step, run-end}
+use Rattle.level_laws.specs.Levels.{PastLevel, OpenAt, RightAt}
+use Rattle.level_laws.proofs.RightLaws.{right-start, right-on, right-then, right-else, past-passed, passed-right}
+use Rattle.room_laws.specs.Room.{Value32}
+use Rattle.room_laws.proofs.Items.{item-bounded}
 use Rattle.print.specs.Emit.{emitted}
-use Rattle.expansion.specs.Machine.{Value, Machine, Effect, prints, pushes, stores, increments, toElse, toEnd, goesOn, empty, full, withStack, arity, effect, performed, taking, passed, finished, failed, running}
 use Rattle.print.proofs.EmitLaws.{emitted-fits, length-emitted}
-use Rattle.item_parts.proofs.Laws.{item-on}
-use Rattle.conditionals.specs.declared.Turn.{Turn}
-use Rattle.conditionals.specs.declared.Turn.the-variants as T
-use Rattle.conditionals.specs.declared.Passed.{Passed}
-use Rattle.conditionals.specs.declared.Passed.the-variants as P
-use Rattle.conditionals.specs.Walk.{nestedMost, nested, formLeft, PassedAs}
-use Rattle.conditionals.proofs.WalkLaws.{left-start, left-go, left-stop, left-end, nested-most}
-use Rattle.machine.specs.declared.Step.{Step}
-use Rattle.machine.specs.declared.Step.the-variants.{Push, Go, Pass}
 use Rattle.variables.specs.Machines.{machine}
-use Rattle.machine.specs.Steps.{stepOf, machineAfter, printedBy, SteppedAs}
-use Rattle.machine.proofs.Laws.{effect-same, arguments-kept}
+use Rattle.machine.specs.declared.Step.{Step}
+use Rattle.machine.specs.declared.Step.the-variants.{Push, Go}
+use Rattle.machine.specs.Steps.{stepOf, machineAfter, SteppedAs}
+use Rattle.machine.proofs.Laws.{emitted-nothing}
+use Rattle.expand_run.proofs.StackLaws.{topDown, topDown-length, topDown-push, over, Popped, taking-none, taking-popped, popped-none}
+
+-- a number of the code is a value
+pub value-of : (x : ℕ) → Value32 (toZ w32 x)
+value-of x = below-or x (2 ^ 31) (λ l. rw (lt-ltb x (2 ^ 31) l) l) (λ l. rw (le-ltb x (2 ^ 31) l) (omega arith))
 
 -- ---- output
 
@@ -46,122 +56,53 @@ emitted-on b b′ o xs e w h =
     let z : 0 + length o ≡ length o = omega arith in
     emitted-fits b′ (length o) xs (omega arith) ∙ rw (w (omega arith)) (rw z at (put-put b 0 o xs (omega arith)))
 
--- ---- a stack in an array
+-- ---- effects
 
--- an array's first n elements, the last of them first
-unfoldable pub topDown : {A : Type 0} → A → List A → ℕ → List A
-topDown z l zero = []
-topDown z l (suc n) = getD l n z ∷ topDown z l n
+-- an effect that leads to no other place and leaves the arguments
+abbrev Straight : Effect → Type 0
+Straight (prints bytes) = Unit {0}
+Straight (pushes v) = Unit {0}
+Straight (stores c v) = Unit {0}
+Straight increments = ⊥
+Straight toElse = ⊥
+Straight toEnd = ⊥
 
-topDown-length : {A : Type 0} (z : A) (l : List A) (n : ℕ) → length (topDown z l n) ≡ n
-unfolding topDown
-topDown-length z l zero = refl
-topDown-length z l (suc n) = ap suc (topDown-length z l n)
+simple-straight : (k : Item) (m : Machine) (a b : Value) → Simple k → Straight (effect k m a b)
+unfolding effect
+simple-straight (I.Byte c) m a b h = tt
+simple-straight (I.Argument n) m a b h = tt
+simple-straight (I.Number d f w) m a b h = tt
+simple-straight I.Character m a b h = tt
+simple-straight (I.Constant v) m a b h = tt
+simple-straight (I.Store c) m a b h = tt
+simple-straight (I.Load c) m a b h = tt
+simple-straight (I.Binary o) m a b h = tt
+simple-straight I.Not m a b h = tt
+simple-straight I.Invert m a b h = tt
+simple-straight I.Increment m a b h = absurd h
+simple-straight I.If m a b h = tt
+simple-straight I.Then m a b h = absurd h
+simple-straight I.Else m a b h = absurd h
+simple-straight I.End m a b h = tt
+simple-straight I.Wrong m a b h = tt
 
-topDown-set : {A : Type 0} (z : A) (l : List A) (i n : ℕ) (v : A) → n ≤ i → topDown z (set l i v) n ≡ topDown z l n
-unfolding topDown
-topDown-set z l i zero v h = refl
-topDown-set z l i (suc n) v h = ap₂ _∷_ (getD-set-other l i n v z (λ e. omega arith)) (topDown-set z l i n v (omega arith))
+-- what a step that answers a length does
+record Gone (e : Effect) (m : Machine) (w w′ : ℕ) : Type 0 where
+  pub goes : performed e m ≡ goesOn (machineAfter e m) (printedBy e)
+  pub counts : w′ ≡ w + length (printedBy e)
 
-topDown-push : {A : Type 0} (z : A) (l : List A) (n : ℕ) (v : A) → n < length l → topDown z (set l n v) (n + 1) ≡ v ∷ topDown z l n
-unfolding topDown
-topDown-push z l n v h = rw (add-one n) (ap₂ _∷_ (getD-set-same l n v z h) (topDown-set z l n n v (omega arith)))
+abbrev IsGo : Step → Type 0
+IsGo (Go n) = Unit {0}
+IsGo (Push v) = ⊥
 
-topDown-drop : {A : Type 0} (z : A) (l : List A) (n k : ℕ) → k ≤ n → drop k (topDown z l n) ≡ topDown z l (n - k)
-unfolding topDown
-topDown-drop z l n zero h = let e : n - 0 ≡ n = omega arith in rw e
-topDown-drop z l zero (suc k) h = absurd (let y : ⊥ = omega arith in y)
-topDown-drop z l (suc n) (suc k) h = let e : suc n - suc k ≡ n - k = omega arith in rw e (topDown-drop z l n k (omega arith))
-
-topDown-at : {A : Type 0} (z : A) (l : List A) (n k : ℕ) → k < n → getD (topDown z l n) k z ≡ getD l (n - (k + 1)) z
-unfolding topDown
-topDown-at z l zero k h = absurd (let y : ⊥ = omega arith in y)
-topDown-at z l (suc n) zero h = let e : suc n - (0 + 1) ≡ n = omega arith in rw e
-topDown-at z l (suc n) (suc k) h = let e : suc n - (suc k + 1) ≡ n - (k + 1) = omega arith in rw e (topDown-at z l n k (omega arith))
-
--- the machine whose stack is an array's first d elements
-abbrev pub over : List Value → ℕ → List ℤ → List ℤ → List ℤ → Machine
-over st d x y z = machine (topDown (pos 0) st d) x y z
-
--- d′ elements are left of d where an item's values are popped: b, and a below it
-pub record Popped (k : Item) (st : List Value) (d d′ : ℕ) (a b : Value) : Type 0 where
-  pub enough : arity k ≤ d
-  pub left : d′ ≡ d - arity k
-  pub top : 0 < arity k → b ≡ getD st (d - 1) (pos 0)
-  pub below : 1 < arity k → a ≡ getD st (d - 2) (pos 0)
-
-module _ (k : Item) (st : List Value) (d : ℕ) (x y z : List ℤ) where
-  taking-none : d < arity k → taking k (over st d x y z) ≡ empty
-  unfolding taking
-  taking-none h = rw (topDown-length (pos 0) st d, lt-ltb d (arity k) h)
-
-  taking-popped : (d′ : ℕ) (a b : Value) → Popped k st d d′ a b → taking k (over st d x y z) ≡ performed (effect k (over st d′ x y z) a b) (over st d′ x y z)
-  unfolding taking
-  taking-popped d′ a b p =
-      let e = effect-same k (topDown (pos 0) st d) (topDown (pos 0) st d′) x y z (getD (topDown (pos 0) st d) 1 (pos 0)) a
-      (getD (topDown (pos 0) st d) 0 (pos 0)) b
-      (λ l. topDown-at (pos 0) st d 0 (omega arith) ∙ sym (p .top l)) (λ l. topDown-at (pos 0) st d 1 (omega arith) ∙ sym (p .below l)) in
-      rw (topDown-length (pos 0) st d, le-ltb d (arity k) (p .enough), e, topDown-drop (pos 0) st d (arity k) (p .enough), p .left)
-
--- ---- a run by steps
-
-module _ (f : ℕ) (s : List ℕ) (i : ℕ) (m : Machine) (o : List ℕ) (n : ℕ) (k : Lexed) (q : itemAt s i ≡ k) (h : i < length s) where
-  turn-empty : taking (k .item) m ≡ empty → running (suc f) s i m o n ≡ failed 15 i
-  unfolding running
-  turn-empty e = rw (running, lt-ltb i (length s) h, q, e)
-
-  -- the run goes on at j, behind the item's effect e on m′, with w′ bytes printed
-  pub record Turned (e : Effect) (m′ : Machine) (w j w′ : ℕ) : Type 0 where
-    pub runs : running (suc f) s i m o n ≡ running f s j (machineAfter e m′) (o ++ printedBy e) (n + 1)
-    pub counted : w′ ≡ w + length (printedBy e)
-    pub on : k .next ≤ j
-
-  turn-go : (e : Effect) (m′ : Machine) (w w′ : ℕ) → taking (k .item) m ≡ performed e m′ → stepOf e w ≡ Go w′ → Turned e m′ w (k .next) w′
-  unfolding running performed stepOf machineAfter printedBy
-  turn-go (prints bytes) m′ w w′ t g =
-      let l : w′ ≡ w + length bytes = cc in
-      record { runs = rw (running, lt-ltb i (length s) h, q, t, q) refl; counted = l; on = omega arith }
-  turn-go (pushes v) m′ w w′ t g = absurd (let y : _≡_ {A = ℕ} 0 1 = cc in (let z : ⊥ = omega arith in z))
-  turn-go (stores c v) m′ w w′ t g =
-      let l : w′ ≡ w = cc in
-      record { runs = rw (running, lt-ltb i (length s) h, q, t, q) refl; counted = omega arith; on = omega arith }
-  turn-go increments m′ w w′ t g =
-      let l : w′ ≡ w = cc in
-      record { runs = rw (running, lt-ltb i (length s) h, q, t, q) refl; counted = omega arith; on = omega arith }
-  turn-go toElse m′ w w′ t g = absurd (let y : _≡_ {A = ℕ} 0 1 = cc in (let z : ⊥ = omega arith in z))
-  turn-go toEnd m′ w w′ t g = absurd (let y : _≡_ {A = ℕ} 0 1 = cc in (let z : ⊥ = omega arith in z))
-
-  turn-pass : (e : Effect) (m′ : Machine) (w j : ℕ) (elses : Bool) → taking (k .item) m ≡ performed e m′ → stepOf e w ≡ Pass elses
-      → passed (length s) elses s (k .next) 0 ≡ j → k .next ≤ j → Turned e m′ w j w
-  unfolding running performed stepOf machineAfter printedBy
-  turn-pass (prints bytes) m′ w j elses t g p l = absurd (let y : _≡_ {A = ℕ} 0 1 = cc in (let z : ⊥ = omega arith in z))
-  turn-pass (pushes v) m′ w j elses t g p l = absurd (let y : _≡_ {A = ℕ} 0 1 = cc in (let z : ⊥ = omega arith in z))
-  turn-pass (stores c v) m′ w j elses t g p l = absurd (let y : _≡_ {A = ℕ} 0 1 = cc in (let z : ⊥ = omega arith in z))
-  turn-pass increments m′ w j elses t g p l = absurd (let y : _≡_ {A = ℕ} 0 1 = cc in (let z : ⊥ = omega arith in z))
-  turn-pass toElse m′ w j elses t g p l =
-      let y : j ≡ passed (length s) true s (k .next) 0 = cc in
-      record { runs = rw (running, lt-ltb i (length s) h, q, t, q, y, append-nil o) refl; counted = omega arith; on = l }
-  turn-pass toEnd m′ w j elses t g p l =
-      let y : j ≡ passed (length s) false s (k .next) 0 = cc in
-      record { runs = rw (running, lt-ltb i (length s) h, q, t, q, y, append-nil o) refl; counted = omega arith; on = l }
-
-  turn-push : (m′ : Machine) (v : Value) → taking (k .item) m ≡ performed (pushes v) m′ → length (m′ .stack) < stackMost
-      → running (suc f) s i m o n ≡ running f s (k .next) (withStack m′ (v ∷ m′ .stack)) o (n + 1)
-  unfolding running performed
-  turn-push m′ v t l =
-      let e : taking (k .item) m ≡ goesOn (withStack m′ (v ∷ m′ .stack)) [] = t ∙ rw (lt-ltb (length (m′ .stack)) stackMost l) in
-      rw (running, lt-ltb i (length s) h, q, e, q, append-nil o) refl
-
-  turn-full : (m′ : Machine) (v : Value) → taking (k .item) m ≡ performed (pushes v) m′ → stackMost ≤ length (m′ .stack) → running (suc f) s i m o n ≡ failed 16 i
-  unfolding running performed
-  turn-full m′ v t l =
-      let e : taking (k .item) m ≡ full = t ∙ rw (le-ltb (length (m′ .stack)) stackMost l) in
-      rw (running, lt-ltb i (length s) h, q, e)
-
-run-out : (f : ℕ) (s : List ℕ) (i : ℕ) (m : Machine) (o : List ℕ) (n : ℕ) → length s ≤ i → running f s i m o n ≡ finished m o n
-unfolding running
-run-out zero s i m o n h = refl
-run-out (suc f) s i m o n h = rw (running, le-ltb i (length s) h)
+straight-gone : (e : Effect) (m : Machine) (w w′ : ℕ) → Straight e → stepOf e w ≡ Go w′ → Gone e m w w′
+unfolding performed stepOf machineAfter
+straight-gone (prints bytes) m w w′ h g = let l : w′ ≡ w + length bytes = cc in record { goes = refl; counts = l }
+straight-gone (pushes v) m w w′ h g = absurd (let y : _≡_ {A = ℕ} 0 1 = cc in (let z : ⊥ = omega arith in z))
+straight-gone (stores c v) m w w′ h g = let l : w′ ≡ w = cc in record { goes = refl; counts = omega arith }
+straight-gone increments m w w′ h g = absurd h
+straight-gone toElse m w w′ h g = absurd h
+straight-gone toEnd m w w′ h g = absurd h
 
 only-pushes : (e : Effect) (w : ℕ) (v : Value) → stepOf e w ≡ Push v → e ≡ pushes v
 unfolding stepOf
@@ -172,180 +113,256 @@ only-pushes increments w v h = absurd (let y : _≡_ {A = ℕ} 0 1 = cc in (let 
 only-pushes toElse w v h = absurd (let y : _≡_ {A = ℕ} 0 1 = cc in (let z : ⊥ = omega arith in z))
 only-pushes toEnd w v h = absurd (let y : _≡_ {A = ℕ} 0 1 = cc in (let z : ⊥ = omega arith in z))
 
--- ---- the turns of a loop that runs s from m₀ over a buffer of bytes c₀
+-- a value pushed onto the stack, where there is a place for it
+push-goes : (st : List Value) (d : ℕ) (x y z : List ℤ) (v : Value) → length st ≡ stackMost → d < stackMost
+    → performed (pushes v) (over st d x y z) ≡ goesOn (over (set st d v) (d + 1) x y z) []
+unfolding performed
+push-goes st d x y z v l h =
+    rw (topDown-length (pos 0) st d, lt-ltb d stackMost h, topDown-push (pos 0) st d v (omega arith))
 
--- the stack is st's first d elements, n steps are taken, i is the place, and the output o, of w bytes, is in c if it fits
-pub record Going (s : List ℕ) (m₀ : Machine) (c₀ : List ℕ) (x y z : List ℤ) (st : List Value) (d i n w : ℕ) (c o : List ℕ) : Type 0 where
+push-full : (st : List Value) (d : ℕ) (x y z : List ℤ) (v : Value) → stackMost ≤ d → performed (pushes v) (over st d x y z) ≡ full
+unfolding performed
+push-full st d x y z v h = rw (topDown-length (pos 0) st d, le-ltb d stackMost h)
+
+-- passing to the level's `%;`, or to its `%e` before it
+abbrev goesTo : Bool → Machine → Taken
+goesTo true m = goesToElse m
+goesTo false m = goesToEnd m
+
+-- ---- the turns of a loop
+
+abbrev pointAt : ℕ → Machine → List ℕ → ℕ → Point
+pointAt i m o n = record { place = i; machine = m; output = o; steps = n }
+
+leads-to : (elses : Bool) (s : List ℕ) (p : Point) (next : ℕ) (m : Machine)
+    → stepBy s p next (goesTo elses m) ≡ leads (further p (passedTo elses s next 0) m [])
+leads-to true s p next m = refl
+leads-to false s p next m = refl
+
+-- the run comes to y₀ over a buffer of bytes c₀: the stack is st's first d elements, n steps are taken, i is the place, and the output o,
+-- of w bytes, is in c if it fits
+pub record Going (s : List ℕ) (y₀ : Outcome) (c₀ : List ℕ) (x y z : List ℤ) (st : List Value) (d i n w : ℕ) (c o : List ℕ) : Type 0 where
   pub depth : d ≤ stackMost
   pub places : length st ≡ stackMost
   pub nine : length x ≡ 9
-  pub behind : n ≤ i
-  pub steps : n ≤ length s
+  pub right : RightAt s i
+  pub steps : n ≤ i
   pub counted : w ≡ length o
-  pub short : w ≤ printedMost * n
+  pub short : w ≤ roomFor i
   pub same : length c ≡ length c₀
   pub output : length o ≤ length c₀ → c ≡ putAt c₀ 0 o
-  pub runs : running (length s) s 0 m₀ [] 0 ≡ running (length s - n) s i (over st d x y z) o n
+  pub runs : y₀ ≡ runOfRest s (pointAt i (over st d x y z) o n)
 
-pub going-start : (s c : List ℕ) (x y z : List ℤ) (st : List Value) → length st ≡ stackMost → length x ≡ 9 → Going s (over st 0 x y z) c x y z st 0 0 0 0 c []
-going-start s c x y z st l n =
-    let e : length s - 0 ≡ length s = omega arith in
+pub going-start : (s c : List ℕ) (x z : List ℤ) (st : List Value) → length st ≡ stackMost → length x ≡ 9 → formOf s ≡ Right
+    → Going s (run s x z) c x (replicate 26 (pos 0)) z st 0 0 0 0 c []
+unfolding topDown
+going-start s c x z st l n r =
     record {
       depth = omega arith;
       places = l;
       nine = n;
-      behind = omega arith;
+      right = right-start r;
       steps = omega arith;
       counted = refl;
       short = omega arith;
       same = refl;
       output = λ _. sym (put-nil c 0);
-      runs = rw e;
+      runs = run-start s x z;
     }
 
-module _ {s : List ℕ} {m₀ : Machine} {c₀ : List ℕ} {x y z : List ℤ} {st : List Value} {d i n w : ℕ} {c o : List ℕ} (G : Going s m₀ c₀ x y z st d i n w c o) where
-  pub going-done : length s ≤ i → running (length s) s 0 m₀ [] 0 ≡ finished (over st d x y z) o n
-  going-done h = G .runs ∙ run-out (length s - n) s i (over st d x y z) o n h
+module _ {s : List ℕ} {y₀ : Outcome} {c₀ : List ℕ} {x y z : List ℤ} {st : List Value} {d i n w : ℕ} {c o : List ℕ} (G : Going s y₀ c₀ x y z st d i n w c o) where
+  pub going-done : length s ≤ i → y₀ ≡ finished (over st d x y z) o n
+  going-done h = G .runs ∙ run-end s (pointAt i (over st d x y z) o n) h
 
-  module _ {k : Lexed} (q : k ≡ itemAt s i) (h : i < length s) where
-    here : running (length s) s 0 m₀ [] 0 ≡ running (suc (length s - (n + 1))) s i (over st d x y z) o n
-    here = let e : length s - n ≡ suc (length s - (n + 1)) = omega (arith, G .behind) in rw e at (G .runs)
+  -- what is printed and taken so far is within the bounds
+  pub going-within : (w ≤ roomFor (length s)) × (n ≤ length s)
+  going-within = (omega (arith, G .short, G .right .inside), omega (arith, G .steps, G .right .inside))
 
+  module _ (k : Lexed) (q : k ≡ itemAt s i) (h : i < length s) where
     pub going-leads : i < k .next
     going-leads = rw q (item-on s i h)
 
-    pub going-empty : d < arity (k .item) → running (length s) s 0 m₀ [] 0 ≡ failed 15 i
-    going-empty l = here ∙ turn-empty (length s - (n + 1)) s i (over st d x y z) o n k (sym q) h (taking-none (k .item) st d x y z l)
+    right-next : RightAt s (k .next)
+    right-next = rw q (right-on (G .right) h)
 
-    module _ {d′ : ℕ} {a b : Value} {x′ y′ z′ : List ℤ} {c′ : List ℕ} {r : Step} (p : Popped (k .item) st d d′ a b)
-        (g : (st′ : List Value) → SteppedAs (effect (k .item) (machine st′ x y z) a b) w (machine st′ x y z) (machine st′ x′ y′ z′) c c′ r) where
-      popping : taking (k .item) (over st d x y z) ≡ performed (effect (k .item) (over st d′ x y z) a b) (over st d′ x y z)
-      popping = taking-popped (k .item) st d x y z d′ a b p
+    pub going-empty : d < arity (k .item) → y₀ ≡ failed 15 i
+    unfolding step
+    going-empty l =
+        let p = pointAt i (over st d x y z) o n in
+        G .runs ∙ run-step s p h ∙ rw (← q, taking-none (k .item) st d x y z l)
 
-      nine-after : length x′ ≡ 9
-      nine-after =
-          let s′ = g (topDown (pos 0) st d′) in
-          ap (λ (m : Machine). length (m .arguments)) (s′ .after) ∙ arguments-kept (effect (k .item) (over st d′ x y z) a b) (over st d′ x y z) ∙ G .nine
+    module _ {d′ : ℕ} {a b : Value} (p : Popped (k .item) st d d′ a b) where
+      abbrev eff : Effect
+      eff = effect (k .item) (over st d′ x y z) a b
 
-      same-after : length c′ ≡ length c₀
-      same-after = let s′ = g (topDown (pos 0) st d′) in ap length (s′ .output) ∙ length-emitted c w _ ∙ G .same
+      by-taken : {t : Taken} → performed eff (over st d′ x y z) ≡ t
+          → y₀ ≡ runBehind s (pointAt i (over st d x y z) o n) (stepBy s (pointAt i (over st d x y z) o n) (k .next) t)
+      unfolding step
+      by-taken e =
+          let P = pointAt i (over st d x y z) o n in
+          G .runs ∙ run-step s P h ∙ rw (← q, taking-popped (k .item) st d x y z d′ a b p, e)
 
-      -- the bytes that the item prints come behind o
-      output-after : let e = effect (k .item) (over st d′ x y z) a b in length (o ++ printedBy e) ≤ length c₀ → c′ ≡ putAt c₀ 0 (o ++ printedBy e)
-      output-after l =
-          let s′ = g (topDown (pos 0) st d′) in
-          s′ .output ∙ rw (G .counted) (emitted-on c₀ c o _ (G .same) (G .output) l)
+      pub going-full : (v : Value) → eff ≡ pushes v → stackMost ≤ d′ → y₀ ≡ failed 16 i
+      going-full v e l =
+          let f : performed eff (over st d′ x y z) ≡ full = rw e (push-full st d′ x y z v l) in
+          by-taken f
 
-      module _ {v : Value} (u : r ≡ Push v) where
-        pushing : effect (k .item) (over st d′ x y z) a b ≡ pushes v
-        pushing = only-pushes _ w v (sym (g (topDown (pos 0) st d′) .step) ∙ u)
+      -- the run goes on behind the item
+      going-on : {st′ : List Value} {d″ : ℕ} {x′ y′ z′ : List ℤ} {bytes c′ : List ℕ} {w′ : ℕ}
+          → performed eff (over st d′ x y z) ≡ goesOn (over st′ d″ x′ y′ z′) bytes
+          → d″ ≤ stackMost → length st′ ≡ stackMost → length x′ ≡ 9 → length bytes ≤ roomFor (k .next - i)
+          → w′ ≡ w + length bytes → c′ ≡ emitted c w bytes
+          → Going s y₀ c₀ x′ y′ z′ st′ d″ (k .next) (n + 1) w′ c′ (o ++ bytes)
+      going-on {st′} {d″} {x′} {y′} {z′} {bytes} {c′} {w′} e l m u v g f =
+          let a : length (o ++ bytes) ≡ length o + length bytes = length-append o bytes in
+          record {
+            depth = l;
+            places = m;
+            nine = u;
+            right = right-next;
+            steps = omega (arith, G .steps, going-leads);
+            counted = omega (arith, G .counted);
+            short = omega (arith, G .short, going-leads);
+            same = ap length f ∙ length-emitted c w bytes ∙ G .same;
+            output = λ b. f ∙ rw (G .counted) (emitted-on c₀ c o bytes (G .same) (G .output) b);
+            runs = by-taken e;
+          }
 
-        pub going-full : stackMost ≤ d′ → running (length s) s 0 m₀ [] 0 ≡ failed 16 i
-        going-full l =
-            let t : taking (k .item) (over st d x y z) ≡ performed (pushes v) (over st d′ x y z) = popping ∙ rw pushing in
-            here ∙ turn-full (length s - (n + 1)) s i (over st d x y z) o n k (sym q) h (over st d′ x y z) v t (rw (topDown-length (pos 0) st d′) l)
+      pub going-pushed : (v : Value) → eff ≡ pushes v → d′ < stackMost
+          → Going s y₀ c₀ x y z (set st d′ v) (d′ + 1) (k .next) (n + 1) w c o
+      going-pushed v e l =
+          let f : performed eff (over st d′ x y z) ≡ goesOn (over (set st d′ v) (d′ + 1) x y z) [] = rw e (push-goes st d′ x y z v (G .places) l) in
+          rw (append-nil o) at (going-on {w′ = w} f (omega arith) (length-set st d′ v ∙ G .places) (G .nine) (omega arith) (omega arith) (emitted-nothing c w))
 
-        pub going-push : d′ < stackMost → Going s m₀ c₀ x′ y′ z′ (set st d′ v) (d′ + 1) (k .next) (n + 1) w c′ o
-        unfolding printedBy machineAfter
-        going-push l =
-            let s′ = rw pushing at (g (topDown (pos 0) st d′)) in
-            let t : taking (k .item) (over st d x y z) ≡ performed (pushes v) (over st d′ x y z) = popping ∙ rw pushing in
-            let o′ = rw (pushing, append-nil o) at output-after in
-            record {
-              depth = omega arith;
-              places = length-set st d′ v ∙ G .places;
-              nine = nine-after;
-              behind = omega (arith, G .behind, going-leads);
-              steps = omega (arith, G .behind);
-              counted = G .counted;
-              short = omega (arith, G .short);
-              same = same-after;
-              output = o′;
-              runs =
-                  let e : topDown (pos 0) (set st d′ v) (d′ + 1) ≡ v ∷ topDown (pos 0) st d′ = topDown-push (pos 0) st d′ v (omega (arith, G .places)) in
-                  here
-                  ∙ turn-push (length s - (n + 1)) s i (over st d x y z) o n k (sym q) h (over st d′ x y z) v t (rw (topDown-length (pos 0) st d′) l)
-                  ∙ rw e (ap (λ (m : Machine). running (length s - (n + 1)) s (k .next) (withStack m (v ∷ topDown (pos 0) st d′)) o (n + 1)) (sym (s′ .after)));
-            }
+      -- or where passing leads
+      pub going-past : (elses : Bool) {r : ℕ} → performed eff (over st d′ x y z) ≡ goesTo elses (over st d′ x y z)
+          → OpenAt s (k .next) 0 → PastLevel elses s (k .next) r → Going s y₀ c₀ x y z st d′ r (n + 1) w c o
+      going-past elses {r} e op pl =
+          let f : r ≡ passedTo elses s (k .next) 0 = past-passed op pl in
+          let g : k .next ≤ passedTo elses s (k .next) 0 = passed-on elses s (k .next) 0 in
+          record {
+            depth = omega (arith, G .depth, p .left);
+            places = G .places;
+            nine = G .nine;
+            right = rw f (passed-right elses op);
+            steps = omega (arith, G .steps, going-leads);
+            counted = G .counted;
+            short = omega (arith, G .short, going-leads);
+            same = G .same;
+            output = G .output;
+            runs = by-taken e ∙ rw (leads-to elses s (pointAt i (over st d x y z) o n) (k .next) (over st d′ x y z), f, append-nil o);
+          }
 
-      -- what Turned says of this item
-      abbrev pub Leads : ℕ → ℕ → Type 0
-      Leads j w′ =
-          Turned (length s - (n + 1)) s i (over st d x y z) o n k (sym q) h (effect (k .item) (over st d′ x y z) a b) (over st d′ x y z) w j w′
+    -- a simple item that the machine's step took, with its values popped
+    module _ {d′ : ℕ} {a b : Value} (p : Popped (k .item) st d d′ a b) (j : Simple (k .item)) {y′ z′ : List ℤ} {c′ : List ℕ} {r : Step}
+        (g : (st′ : List Value) (x′ : List ℤ) → SteppedAs (effect (k .item) (machine st′ x′ y z) a b) w (machine st′ x′ y z) (machine st′ x′ y′ z′) c c′ r) where
+      stepped : SteppedAs (effect (k .item) (over st d′ x y z) a b) w (over st d′ x y z) (over st d′ x y′ z′) c c′ r
+      stepped = g (topDown (pos 0) st d′) x
 
-      pub leads-go : {w′ : ℕ} → r ≡ Go w′ → Leads (k .next) w′
-      leads-go {w′} u =
-          turn-go (length s - (n + 1)) s i (over st d x y z) o n k (sym q) h (effect (k .item) (over st d′ x y z) a b) (over st d′ x y z) w w′ popping
-          (sym (g (topDown (pos 0) st d′) .step) ∙ u)
+      abbrev pushing : Value → Type 0
+      pushing v = effect (k .item) (over st d′ x y z) a b ≡ pushes v
 
-      pub leads-pass : {elses : Bool} {j : ℕ} → r ≡ Pass elses → passed (length s) elses s (k .next) 0 ≡ j → k .next ≤ j → Leads j w
-      leads-pass {elses} {j} u e l =
-          turn-pass (length s - (n + 1)) s i (over st d x y z) o n k (sym q) h (effect (k .item) (over st d′ x y z) a b) (over st d′ x y z) w j elses popping
-          (sym (g (topDown (pos 0) st d′) .step) ∙ u) e l
+      step-pushes : {v : Value} → r ≡ Push v → pushing v
+      step-pushes {v} u = only-pushes (effect (k .item) (over st d′ x y z) a b) w v (sym (stepped .step) ∙ u)
 
-      module _ {j w′ : ℕ} (T : Leads j w′) where
-        pub going-further : i < j
-        going-further = omega (arith, going-leads, T .on)
+      pub step-full : {v : Value} → r ≡ Push v → stackMost ≤ d′ → y₀ ≡ failed 16 i
+      step-full {v} u l = going-full p v (step-pushes u) l
 
-        pub going-on : Going s m₀ c₀ x′ y′ z′ st d′ j (n + 1) w′ c′ (o ++ printedBy (effect (k .item) (over st d′ x y z) a b))
-        going-on =
-            let s′ = g (topDown (pos 0) st d′) in
-            let e = effect (k .item) (over st d′ x y z) a b in
-            let l : length (o ++ printedBy e) ≡ length o + length (printedBy e) = length-append o (printedBy e) in
-            record {
-              depth = omega (arith, G .depth, p .left);
-              places = G .places;
-              nine = nine-after;
-              behind = omega (arith, G .behind, going-further);
-              steps = omega (arith, G .behind);
-              counted = omega (arith, G .counted, T .counted);
-              short = omega (arith, G .short, T .counted, s′ .short);
-              same = same-after;
-              output = output-after;
-              runs = here ∙ T .runs ∙ ap (λ (m : Machine). running (length s - (n + 1)) s j m (o ++ printedBy e) (n + 1)) (sym (s′ .after));
-            }
+      pub step-pushed : {v : Value} → r ≡ Push v → d′ < stackMost → Going s y₀ c₀ x y′ z′ (set st d′ v) (d′ + 1) (k .next) (n + 1) w c′ o
+      unfolding machineAfter
+      step-pushed {v} u l =
+          let e : pushing v = step-pushes u in
+          let f : over st d′ x y′ z′ ≡ over st d′ x y z = stepped .after ∙ rw e in
+          let ey : y′ ≡ y = ap (λ (m : Machine). m .locals) f in
+          let ez : z′ ≡ z = ap (λ (m : Machine). m .lasting) f in
+          let ec : c′ ≡ c = stepped .output ∙ rw e (sym (emitted-nothing c w)) in
+          rw (ey, ez, ec) (going-pushed p v e l)
 
--- ---- the check along a run
+      pub step-gone : {w′ : ℕ} → r ≡ Go w′ → Value32 b → Going s y₀ c₀ x y′ z′ st d′ (k .next) (n + 1) w′ c′ (o ++ printedBy (effect (k .item) (over st d′ x y z) a b))
+      step-gone {w′} u v =
+          let e : Effect = effect (k .item) (over st d′ x y z) a b in
+          let f : Gone (effect (k .item) (over st d′ x y z) a b) (over st d′ x y z) w w′ =
+          straight-gone e (over st d′ x y z) w w′ (simple-straight (k .item) (over st d′ x y z) a b j) (sym (stepped .step) ∙ u) in
+          let m : performed (effect (k .item) (over st d′ x y z) a b) (over st d′ x y z) ≡ goesOn (over st d′ x y′ z′) (printedBy (effect (k .item) (over st d′ x y z) a b)) =
+          f .goes ∙ rw (stepped .after) in
+          let l : length (printedBy (effect (k .item) (over st d′ x y z) a b)) ≤ roomFor (k .next - i) = rw q (item-bounded s i (over st d′ x y z) a b h v) in
+          going-on p m (omega (arith, G .depth, p .left)) (G .places) (G .nine) l (f .counts) (stepped .output)
 
--- the form is that of what is left from i on with the number k kept
-pub record Checked (s : List ℕ) (i k : ℕ) : Type 0 where
-  pub form : formOf s ≡ formLeft s i k
-  pub most : k ≤ nestedMost
+  -- ---- the items that the run takes by itself
 
-pub checked-start : (s : List ℕ) → Checked s 0 0
-checked-start s = record { form = left-start s; most = omega arith }
+  module _ (h : i < length s) where
+    pub byte-gone : {b : ℕ} {c′ : List ℕ} → lexed (I.Byte b) (i + 1) ≡ itemAt s i → c′ ≡ emitted c w (b ∷ [])
+        → Going s y₀ c₀ x y z st d (i + 1) (n + 1) (w + 1) c′ (o ++ (b ∷ []))
+    unfolding effect performed arity
+    byte-gone {b} q f =
+        going-on (lexed (I.Byte b) (i + 1)) q h (popped-none (I.Byte b) st d refl) refl (G .depth) (G .places) (G .nine) (omega arith) refl f
 
-module _ {s : List ℕ} {i k : ℕ} (C : Checked s i k) where
-  pub checked-end : length s ≤ i → k ≡ 0 → formOf s ≡ F.Right
-  checked-end l e = C .form ∙ left-end s i k l ∙ rw (eq-eqb k 0 e)
+    pub argument-below : {j : ℕ} → lexed (I.Argument j) (i + 3) ≡ itemAt s i → j < 9
+    argument-below {j} q = rw (← q) at (item-holds s i h)
 
-  pub checked-open : length s ≤ i → (k ≡ 0 → ⊥) → formOf s ≡ F.Wrong (length s)
-  checked-open l e = C .form ∙ left-end s i k l ∙ rw (ne-eqb k 0 e)
+    pub argument-full : {j : ℕ} → lexed (I.Argument j) (i + 3) ≡ itemAt s i → stackMost ≤ d → y₀ ≡ failed 16 i
+    unfolding effect arity
+    argument-full {j} q l =
+        going-full (lexed (I.Argument j) (i + 3)) q h (popped-none (I.Argument j) st d refl) (getD x j (pos 0)) refl l
 
-  module _ {l : Lexed} (q : l ≡ itemAt s i) (h : i < length s) where
-    pub checked-on : {c : Class} {t : Turn} {k′ : ℕ} → c ≡ classOf (l .item) → t ≡ nested c k → t ≡ T.Go k′ → Checked s (l .next) k′
-    unfolding classAt
-    checked-on {c} {t} {k′} e f g =
-        let u : nested (classAt s i .class) k ≡ T.Go k′ = rw (← q, ← e) (sym f ∙ g) in
-        record { form = C .form ∙ left-go s i k k′ h u ∙ rw q; most = nested-most _ k k′ (C .most) u }
+    pub argument-pushed : {j : ℕ} → lexed (I.Argument j) (i + 3) ≡ itemAt s i → d < stackMost
+        → Going s y₀ c₀ x y z (set st d (getD x j (pos 0))) (d + 1) (i + 3) (n + 1) w c o
+    unfolding effect arity
+    argument-pushed {j} q l =
+        going-pushed (lexed (I.Argument j) (i + 3)) q h (popped-none (I.Argument j) st d refl) (getD x j (pos 0)) refl l
 
-    pub checked-wrong : {c : Class} {t : Turn} → c ≡ classOf (l .item) → t ≡ nested c k → t ≡ T.Stop → formOf s ≡ F.Wrong i
-    unfolding classAt
-    checked-wrong {c} {t} e f g =
-        let u : nested (classAt s i .class) k ≡ T.Stop = rw (← q, ← e) (sym f ∙ g) in
-        C .form ∙ left-stop s i k h u
+    pub if-gone : lexed I.If (i + 2) ≡ itemAt s i → Going s y₀ c₀ x y z st d (i + 2) (n + 1) w c o
+    unfolding effect performed arity
+    if-gone q =
+        rw (append-nil o) at (going-on (lexed I.If (i + 2)) q h (popped-none I.If st d refl) {w′ = w} refl (G .depth) (G .places) (G .nine) (omega arith) (omega arith) (emitted-nothing c w))
 
-  -- passing from i on
-  pub checked-pass : (elses : Bool) {r : Passed} {j k′ : ℕ} → PassedAs s i k elses r → r ≡ P.To j k′ → Checked s j k′
-  checked-pass elses {r} {j} {k′} p e =
-      let u = subst (λ (x : Passed). PassedAs s i k elses x) e p in
-      record { form = C .form ∙ u .1 .0; most = u .1 .1 .1 }
+    pub end-gone : lexed I.End (i + 2) ≡ itemAt s i → Going s y₀ c₀ x y z st d (i + 2) (n + 1) w c o
+    unfolding effect performed arity
+    end-gone q =
+        rw (append-nil o) at (going-on (lexed I.End (i + 2)) q h (popped-none I.End st d refl) {w′ = w} refl (G .depth) (G .places) (G .nine) (omega arith) (omega arith) (emitted-nothing c w))
 
-  pub checked-passed : (elses : Bool) {r : Passed} {p : ℕ} → PassedAs s i k elses r → r ≡ P.Wrong p → formOf s ≡ F.Wrong p
-  checked-passed elses {r} {p} h e = C .form ∙ subst (λ (x : Passed). PassedAs s i k elses x) e h
+    pub incremented-gone : {x′ : List ℤ} → lexed I.Increment (i + 2) ≡ itemAt s i → x′ ≡ incremented x
+        → Going s y₀ c₀ x′ y z st d (i + 2) (n + 1) w c o
+    unfolding effect performed arity incremented
+    incremented-gone {x′} q e =
+        rw e (rw (append-nil o) at (going-on (lexed I.Increment (i + 2)) q h (popped-none I.Increment st d refl) {w′ = w} refl (G .depth) (G .places)
+        (length-set (set x 0 _) 1 _ ∙ length-set x 0 _ ∙ G .nine) (omega arith) (omega arith) (emitted-nothing c w)))
 
--- where passing leads
-pub passed-to : (s : List ℕ) (i k : ℕ) (elses : Bool) {r : Passed} {j k′ : ℕ} → PassedAs s i k elses r → r ≡ P.To j k′ → (passed (length s) elses s i 0 ≡ j) × (i ≤ j)
-passed-to s i k elses {r} {j} {k′} p e =
-    let u = subst (λ (x : Passed). PassedAs s i k elses x) e p in
-    (u .0, u .1 .1 .0)
+    -- ---- `%e`
+
+    pub else-open : lexed I.Else (i + 2) ≡ itemAt s i → OpenAt s (i + 2) 0
+    else-open q = rw (← q) at (right-else (G .right) h (ap (λ (l : Lexed). l .item) (sym q)))
+
+    pub else-past : {r : ℕ} → lexed I.Else (i + 2) ≡ itemAt s i → PastLevel false s (i + 2) r → Going s y₀ c₀ x y z st d r (n + 1) w c o
+    unfolding effect performed arity
+    else-past q l = going-past (lexed I.Else (i + 2)) q h (popped-none I.Else st d refl) false refl (else-open q) l
+
+    pub else-further : {r : ℕ} → lexed I.Else (i + 2) ≡ itemAt s i → PastLevel false s (i + 2) r → i < r
+    else-further q l = omega (arith, past-passed (else-open q) l, passed-on false s (i + 2) 0)
+
+    -- ---- `%t`
+
+    pub then-open : lexed I.Then (i + 2) ≡ itemAt s i → OpenAt s (i + 2) 0
+    then-open q = rw (← q) at (right-then (G .right) h (ap (λ (l : Lexed). l .item) (sym q)))
+
+    pub then-further : {r : ℕ} → lexed I.Then (i + 2) ≡ itemAt s i → PastLevel true s (i + 2) r → i < r
+    then-further q l = omega (arith, past-passed (then-open q) l, passed-on true s (i + 2) 0)
+
+    pub then-empty : lexed I.Then (i + 2) ≡ itemAt s i → d < 1 → y₀ ≡ failed 15 i
+    unfolding arity
+    then-empty q l = going-empty (lexed I.Then (i + 2)) q h l
+
+    module _ (q : lexed I.Then (i + 2) ≡ itemAt s i) {d′ : ℕ} (u : 0 < d) (v : d′ ≡ d - 1) where
+      popped-then : Popped I.Then st d d′ (pos 0) (getD st d′ (pos 0))
+      unfolding arity
+      popped-then = record { enough = omega arith; left = v; top = λ _. rw v; below = λ l. absurd (let y : ⊥ = omega arith in y) }
+
+      pub then-past : {r : ℕ} → isZero (getD st d′ (pos 0)) ≡ true → PastLevel true s (i + 2) r → Going s y₀ c₀ x y z st d′ r (n + 1) w c o
+      unfolding effect performed
+      then-past {r} e l = going-past (lexed I.Then (i + 2)) q h popped-then true (rw e) (then-open q) l
+
+      pub then-gone : isZero (getD st d′ (pos 0)) ≡ false → Going s y₀ c₀ x y z st d′ (i + 2) (n + 1) w c o
+      unfolding effect performed
+      then-gone e =
+          let f : performed (effect I.Then (over st d′ x y z) (pos 0) (getD st d′ (pos 0))) (over st d′ x y z) ≡ goesOn (over st d′ x y z) [] = rw e in
+          rw (append-nil o) at (going-on (lexed I.Then (i + 2)) q h popped-then {w′ = w} f (omega (arith, G .depth)) (G .places) (G .nine) (omega arith) (omega arith) (emitted-nothing c w))

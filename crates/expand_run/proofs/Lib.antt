@@ -1,2 +1,2 @@
-pub mod FailedLaws
+pub mod StackLaws
 pub mod Laws

@@ -2,24 +2,22 @@
 -- Assumes nothing.
 use mathlib.Core.Path.{_≡_}
 use mathlib.Core.List.{List, [], _∷_}
-use Prim.Native.Nat.{ℕ, _≤_}
+use Prim.Native.Nat.{ℕ, _≤_, _<_}
 use lib.IntN.{ℤ}
 use lib.ListN.{length}
 use Rattle.base.specs.Overwrite.{putAt}
 use Rattle.base.specs.Answer.{Answer, refused, gives}
-use Rattle.expansion.specs.declared.Form.{Form}
-use Rattle.expansion.specs.declared.Form.the-variants as F
+use Rattle.expansion.specs.Limits.{roomFor}
 use Rattle.expansion.specs.Machine.{Outcome, finished, failed}
 use Rattle.expansion.specs.Expanding.{Counts}
 use Rattle.expand_run.specs.declared.Ran.{Ran}
-use Rattle.expand_run.specs.declared.Ran.the-variants.{Done, Empty, Full, Wrong}
+use Rattle.expand_run.specs.declared.Ran.the-variants.{Done, Empty, Full}
 
 -- the output's length and the steps, or document 01's number with the item's place
 abbrev pub saysRan : Ran → Answer Counts
 saysRan (Done n k) = gives (record { length = n; steps = k })
 saysRan (Empty i) = refused 15 (i ∷ [])
 saysRan (Full i) = refused 16 (i ∷ [])
-saysRan (Wrong i) = refused 14 (i ∷ [])
 
 -- a buffer's bytes are b before a run with this outcome and b′ after it: its output is put where it fits
 abbrev pub PutAs : Outcome → List ℕ → List ℕ → Type 0
@@ -31,14 +29,15 @@ abbrev pub RanAs : Outcome → Ran → List ℤ → Type 0
 RanAs (finished m o n) r v = (r ≡ Done (length o) n) × (v ≡ m .lasting)
 RanAs (failed k i) r v = saysRan r ≡ refused k (i ∷ [])
 
--- the answer of a run whose string, from some place on, has this form: "14 over the whole string", then the first
--- failing step
-abbrev pub judged : Form → Ran → Ran
-judged F.Right r = r
-judged (F.Wrong i) r = Wrong i
+-- document 02, 2026-06: what the answer for a string of n bytes is within
+abbrev pub RanWithin : ℕ → Ran → Type 0
+RanWithin n (Done l k) = (l ≤ roomFor n) × (k ≤ n)
+RanWithin n (Empty i) = i < n
+RanWithin n (Full i) = i < n
 
--- a run of a string of this form with this outcome answers r; A to Z are v after it, and a buffer's bytes are b
--- before it and b′ after it
-abbrev pub RunAs : Form → Outcome → List ℕ → Ran → List ℤ → List ℕ → Type 0
-RunAs F.Right y b r v b′ = RanAs y r v × PutAs y b b′
-RunAs (F.Wrong i) y b r v b′ = r ≡ Wrong i
+-- a run of a string of n bytes with this outcome answers r; A to Z are v after it, and a buffer's bytes are b before it
+-- and b′ after it
+pub record RunAs (n : ℕ) (y : Outcome) (b : List ℕ) (r : Ran) (v : List ℤ) (b′ : List ℕ) : Type 0 where
+  pub answer : RanAs y r v
+  pub output : PutAs y b b′
+  pub within : RanWithin n r

@@ -3,14 +3,14 @@
 -- Assumes nothing.
 use mathlib.Core.Bool.{not}
 use mathlib.Core.List.{List, [], _∷_}
-use Prim.Native.Nat.{ℕ, _-_}
+use Prim.Native.Nat.{ℕ, _-_, _≤_, _<_}
 use lib.Dec.{leb}
 use lib.IntN.{ℤ}
 use lib.ListN.{length}
 use Rattle.base.specs.If.{if_then_else_}
 use Rattle.base.specs.Overwrite.{putAt}
 use Rattle.base.specs.Answer.{Answer, refused, gives}
-use Rattle.expansion.specs.Limits.{stringMost}
+use Rattle.expansion.specs.Limits.{stringMost, roomFor}
 use Rattle.expansion.specs.declared.Form.{Form}
 use Rattle.expansion.specs.declared.Form.the-variants as F
 use Rattle.expansion.specs.declared.Expansion.{Expansion}
@@ -72,3 +72,15 @@ saysExpansion (E.Malformed i) = refused 14 (i ∷ [])
 saysExpansion (E.Empty i) = refused 15 (i ∷ [])
 saysExpansion (E.Full i) = refused 16 (i ∷ [])
 saysExpansion (E.Room n) = refused 8 (n ∷ [])
+
+-- document 02, 2026-06: what the answer for a string of n bytes is within: "never takes more than n steps", "never
+-- produces more than 25 times n bytes". A wrong item stands in the string, an open conditional at its length; an item
+-- at which a step fails stands in the string
+abbrev pub Within : ℕ → Expansion → Type 0
+Within n (E.Done l k) = (l ≤ roomFor n) × (k ≤ n)
+Within n E.Place = Unit {0}
+Within n E.Length = Unit {0}
+Within n (E.Malformed i) = i ≤ n
+Within n (E.Empty i) = i < n
+Within n (E.Full i) = i < n
+Within n (E.Room l) = l ≤ roomFor n

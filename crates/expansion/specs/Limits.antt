@@ -1,6 +1,6 @@
 -- Document 01's numbers for expansion, each by one name.
 -- Assumes nothing.
-use Prim.Native.Nat.{ℕ}
+use Prim.Native.Nat.{ℕ, _*_}
 
 -- "The string has at most 1,000 bytes"
 abbrev pub stringMost : ℕ
@@ -17,3 +17,7 @@ nestMost = 16
 -- the largest constant
 abbrev pub constantMost : ℕ
 constantMost = 2147483647
+
+-- document 02, 2026-06: an accepted string of n bytes "never produces more than 25 times n bytes"
+abbrev pub roomFor : ℕ → ℕ
+roomFor n = 25 * n

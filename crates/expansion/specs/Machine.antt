@@ -129,6 +129,15 @@ pub data Effect : Type 0 where
   toElse : Effect
   toEnd : Effect
 
+-- the bytes that an effect prints
+abbrev pub printedBy : Effect → List ℕ
+printedBy (prints bytes) = bytes
+printedBy (pushes v) = []
+printedBy (stores c v) = []
+printedBy increments = []
+printedBy toElse = []
+printedBy toEnd = []
+
 -- "The second value popped is the left operand": b is the first popped, a the second
 unfoldable pub effect : Item → Machine → Value → Value → Effect
 effect (I.Byte c) m a b = prints (c ∷ [])

@@ -2,13 +2,13 @@
 -- Assumes nothing.
 use mathlib.Core.Path.{_≡_, refl, sym, ap, _∙_}
 use mathlib.Core.Bool.{Bool, true, false, _&&_, _||_, not}
-use mathlib.Core.List.{List, [], _∷_}
+use mathlib.Core.List.{List, []}
 use mathlib.Core.Logic.{inl, inr}
 use Prim.Native.Nat.{ℕ, _+_, _-_, _*_, _≤_, _<_}
 use native.Mathlib.Omega.{arith}
-use lib.Dec.{eqb, ltb, leb}
+use lib.Dec.{eqb, leb}
 use lib.ListN.{length, getD}
-use borrow.Author.Tests.{eq-eqb, ne-eqb, eqb-true, eqb-false, lt-ltb, le-ltb, not-true, not-false}
+use borrow.Author.Tests.{eq-eqb, ne-eqb, eqb-false, lt-ltb, le-ltb, not-true, not-false}
 use Rattle.base.specs.If.{if_then_else_}
 use Rattle.base.specs.Scan.{scan, every}
 use Rattle.base.specs.Answer.{Answer, refused, gives, mapAnswer, andThen, isGiven}
@@ -19,7 +19,7 @@ use Rattle.edition.specs.declared.Edition.{Edition}
 use Rattle.edition.specs.Edition.{okEdition}
 use Rattle.entry.specs.declared.Sizes.{Sizes}
 use Rattle.entry.specs.Limits.{headerSize, fileMost, namesLeast}
-use Rattle.entry.specs.Layout.{sizesOf, sizeOf, booleansAt, padOf}
+use Rattle.entry.specs.Layout.{sizesOf, booleansAt, padOf}
 use Rattle.entry.specs.Reading.{okBooleanAt, okNames, okBooleans, okPad, okNumbers, okStrings, reading}
 use Rattle.entry.specs.Reading.{badNames, badBoolean, badNumber, badString}
 use Rattle.entry.specs.Asking.{openingOf, opening}

@@ -1,37 +1,46 @@
-// The items of a parameterized string (document 01: Expansion). Proved: `item_at` is itemAt of the crate expansion at
-// each place of each string. Assumed: nothing.
+// The items of a right string, for its run (document 01: Expansion). The check for 14 has accepted them, so that no
+// test is made that it has made. Proved: `item_at` reads itemAt of the crate expansion at each right item. Assumed:
+// nothing.
 ghost use mathlib.Core.Path.{_≡_};
-ghost use Prim.Native.Nat.{_+_, _≤_, _<_};
-ghost use lib.ListN.{length};
-ghost use Rattle.expansion.specs.Items.{lexed, argumentAt, quotedAt, bracedAt, storeAt, loadAt, formatAt, widthAt};
-ghost use Rattle.expansion.specs.Items.{percentAt, itemAt};
 ghost use Rattle.expansion.specs.declared.Item.the-variants.{Number};
+ghost use Rattle.expansion.specs.Items.{byteAt, lexed, bracedAt, formatAt, widthAt, percentAt};
 ghost use Rattle.item_parts.specs.Classes.{otherAt};
+ghost use Rattle.item_parts.specs.Right.{RightItem};
+ghost use Rattle.items.specs.Parts.{Right, otherItem, LeftToOther};
+ghost use Rattle.items.specs.Reading.{ReadAs};
 use expansion::Base;
 use expansion::Item;
-use expansion::Lexed;
 use expansion::Operator;
-use item_parts::Braced;
-use item_parts::braced_at;
-use item_parts::byte_at;
-use item_parts::is_digit;
-use item_parts::is_letter;
-use item_parts::is_nonzero;
-use item_parts::is_quoted;
 
-fn lexed(item: Item, next: usize) -> Lexed
-    ensures { λ r. ⌜ r ≡ lexed item next ⌝ }
+// An item as the run reads it: those that it takes by itself, and any other with the place behind it.
+pub enum RunItem {
+    // a byte that stands for itself
+    Byte(u8),
+    // %p1 to %p9, counted from 0
+    Argument(usize),
+    // %? %t %e %;
+    If,
+    Then,
+    Else,
+    End,
+    // %i
+    Increment,
+    Other { item: Item, next: usize },
+}
+
+fn other(item: Item, next: usize) -> RunItem
+    ensures { λ r. ⌜ r ≡ otherItem (lexed item next) ⌝ }
 {
-    Lexed {
+    RunItem::Other {
         item: item,
         next: next,
     }
 }
 
-fn number(base: Base, zero: bool, width: u8, next: usize) -> Lexed
-    ensures { λ r. ⌜ r ≡ lexed (Number base zero width) next ⌝ }
+fn number(base: Base, zero: bool, width: u8, next: usize) -> RunItem
+    ensures { λ r. ⌜ r ≡ otherItem (lexed (Number base zero width) next) ⌝ }
 {
-    Lexed {
+    RunItem::Other {
         item: Item::Number {
             base: base,
             zero: zero,
@@ -41,208 +50,109 @@ fn number(base: Base, zero: bool, width: u8, next: usize) -> Lexed
     }
 }
 
-// `%p1` to `%p9`
-fn argument_at(s: &[u8], j: usize) -> Lexed
-    requires { ⌜ j ≤ length (now s) ⌝ }
-    ensures { λ r. ⌜ r ≡ argumentAt (now (s .entry)) j ⌝ }
+fn braced_at(s: &[u8], j: usize) -> RunItem
+    requires { ⌜ Right (bracedAt (now s) j) ⌝ }
+    ensures { λ r. ⌜ r ≡ otherItem (bracedAt (now (s .entry)) j) ⌝ }
 {
-    let d = byte_at(s, j + 1);
-    if is_nonzero(d) {
-        Lexed {
-            item: Item::Argument((d - 49) as usize),
-            next: j + 2,
-        }
-    } else {
-        Lexed {
-            item: Item::Wrong,
-            next: j,
-        }
+    let mut i = j + 1;
+    let mut v: u64 = 0;
+    while s[i] != b'}' {
+        v = v * 10 + (s[i] - 48) as u64;
+        i += 1;
     }
+    other(Item::Constant(v as i32), i + 1)
 }
 
-// `%'b'`
-fn quoted_at(s: &[u8], j: usize) -> Lexed
-    requires { ⌜ j ≤ length (now s) ⌝ }
-    ensures { λ r. ⌜ r ≡ quotedAt (now (s .entry)) j ⌝ }
+fn format_at(s: &[u8], k: usize, zero: bool, width: u8) -> RunItem
+    requires { ⌜ Right (formatAt (now s) k zero width) ⌝ }
+    ensures { λ r. ⌜ r ≡ otherItem (formatAt (now (s .entry)) k zero width) ⌝ }
 {
-    if is_quoted(s, j) {
-        Lexed {
-            item: Item::Constant(byte_at(s, j + 1) as i32),
-            next: j + 3,
-        }
-    } else {
-        Lexed {
-            item: Item::Wrong,
-            next: j,
-        }
-    }
-}
-
-fn constant_at(s: &[u8], j: usize) -> Lexed
-    requires { ⌜ j ≤ length (now s) ⌝ }
-    ensures { λ r. ⌜ r ≡ bracedAt (now (s .entry)) j ⌝ }
-{
-    match braced_at(s, j) {
-        Braced::Constant { value, next } => Lexed {
-            item: Item::Constant(value),
-            next: next,
-        },
-        Braced::Wrong => Lexed {
-            item: Item::Wrong,
-            next: j,
-        },
-    }
-}
-
-// `%P` with a letter
-fn store_at(s: &[u8], j: usize) -> Lexed
-    requires { ⌜ j ≤ length (now s) ⌝ }
-    ensures { λ r. ⌜ r ≡ storeAt (now (s .entry)) j ⌝ }
-{
-    let d = byte_at(s, j + 1);
-    if is_letter(d) {
-        Lexed {
-            item: Item::Store(d),
-            next: j + 2,
-        }
-    } else {
-        Lexed {
-            item: Item::Wrong,
-            next: j,
-        }
-    }
-}
-
-// `%g` with a letter
-fn load_at(s: &[u8], j: usize) -> Lexed
-    requires { ⌜ j ≤ length (now s) ⌝ }
-    ensures { λ r. ⌜ r ≡ loadAt (now (s .entry)) j ⌝ }
-{
-    let d = byte_at(s, j + 1);
-    if is_letter(d) {
-        Lexed {
-            item: Item::Load(d),
-            next: j + 2,
-        }
-    } else {
-        Lexed {
-            item: Item::Wrong,
-            next: j,
-        }
-    }
-}
-
-// The letter of a number's format, whose fill and width stand before it.
-fn format_at(s: &[u8], k: usize, zero: bool, width: u8) -> Lexed
-    requires { ⌜ k ≤ length (now s) + 3 ⌝ }
-    ensures { λ r. ⌜ r ≡ formatAt (now (s .entry)) k zero width ⌝ }
-{
-    let c = byte_at(s, k);
+    let c = s[k];
     let next = k + 1;
     match c {
         b'd' => number(Base::Decimal, zero, width, next),
         b'o' => number(Base::Octal, zero, width, next),
         b'x' => number(Base::SmallHex, zero, width, next),
-        b'X' => number(Base::CapitalHex, zero, width, next),
-        _ => lexed(Item::Wrong, k),
+        _ => number(Base::CapitalHex, zero, width, next),
     }
 }
 
-// A width: one or two digits whose first is 1 to 9.
-fn width_at(s: &[u8], k: usize, zero: bool) -> Lexed
-    requires { ⌜ k ≤ length (now s) + 1 ⌝ }
-    ensures { λ r. ⌜ r ≡ widthAt (now (s .entry)) k zero ⌝ }
+fn width_at(s: &[u8], k: usize, zero: bool) -> RunItem
+    requires { ⌜ Right (widthAt (now s) k zero) ⌝ }
+    ensures { λ r. ⌜ r ≡ otherItem (widthAt (now (s .entry)) k zero) ⌝ }
 {
-    let c = byte_at(s, k);
-    if !is_nonzero(c) {
-        return lexed(Item::Wrong, k);
-    }
-    let d = byte_at(s, k + 1);
-    if is_digit(d) {
+    let c = s[k];
+    let d = s[k + 1];
+    if d <= b'9' {
         format_at(s, k + 2, zero, (c - 48) * 10 + (d - 48))
     } else {
         format_at(s, k + 1, zero, c - 48)
     }
 }
 
-// The item whose second byte starts no other item: a fill or a width starts a number's format.
-fn other_at(s: &[u8], j: usize) -> Lexed
-    requires { ⌜ j ≤ length (now s) ⌝ }
-    ensures { λ r. ⌜ r ≡ otherAt (now (s .entry)) j ⌝ }
+fn filled_at(s: &[u8], j: usize) -> RunItem
+    requires { ⌜ Right (otherAt (now s) j) ⌝ }
+    ensures { λ r. ⌜ r ≡ otherItem (otherAt (now (s .entry)) j) ⌝ }
 {
-    let c = byte_at(s, j);
-    if c == b'0' {
-        return width_at(s, j + 1, true);
-    }
-    if is_nonzero(c) {
-        return width_at(s, j, false);
-    }
-    Lexed {
-        item: Item::Wrong,
-        next: j + 1,
+    if s[j] == b'0' {
+        width_at(s, j + 1, true)
+    } else {
+        width_at(s, j, false)
     }
 }
 
-// The item whose second byte is at a place.
-fn percent_at(s: &[u8], j: usize) -> Lexed
-    requires { ⌜ j ≤ length (now s) ⌝ }
-    ensures { λ r. ⌜ r ≡ percentAt (now (s .entry)) j ⌝ }
+fn other_at(s: &[u8], j: usize) -> RunItem
+    requires { ⌜ LeftToOther (byteAt (now s) j) × Right (percentAt (now s) j) ⌝ }
+    ensures { λ r. ⌜ r ≡ otherItem (percentAt (now (s .entry)) j) ⌝ }
 {
-    let c = byte_at(s, j);
+    let c = s[j];
     let next = j + 1;
     match c {
-        b'p' => argument_at(s, j),
-        39 => quoted_at(s, j),
-        b'{' => constant_at(s, j),
-        b'P' => store_at(s, j),
-        b'g' => load_at(s, j),
-        b'%' => lexed(Item::Byte(37), next),
-        b'c' => lexed(Item::Character, next),
+        b'P' => other(Item::Store(s[j + 1]), j + 2),
+        b'g' => other(Item::Load(s[j + 1]), j + 2),
+        b'%' => other(Item::Byte(37), next),
+        b'c' => other(Item::Character, next),
         b'd' => number(Base::Decimal, false, 0, next),
         b'o' => number(Base::Octal, false, 0, next),
         b'x' => number(Base::SmallHex, false, 0, next),
         b'X' => number(Base::CapitalHex, false, 0, next),
-        b'+' => lexed(Item::Binary(Operator::Add), next),
-        b'-' => lexed(Item::Binary(Operator::Subtract), next),
-        b'*' => lexed(Item::Binary(Operator::Multiply), next),
-        b'/' => lexed(Item::Binary(Operator::Divide), next),
-        b'm' => lexed(Item::Binary(Operator::Remainder), next),
-        b'&' => lexed(Item::Binary(Operator::BitAnd), next),
-        b'|' => lexed(Item::Binary(Operator::BitOr), next),
-        b'^' => lexed(Item::Binary(Operator::BitXor), next),
-        b'=' => lexed(Item::Binary(Operator::Equal), next),
-        b'>' => lexed(Item::Binary(Operator::Greater), next),
-        b'<' => lexed(Item::Binary(Operator::Less), next),
-        b'A' => lexed(Item::Binary(Operator::And), next),
-        b'O' => lexed(Item::Binary(Operator::Or), next),
-        b'!' => lexed(Item::Not, next),
-        b'~' => lexed(Item::Invert, next),
-        b'i' => lexed(Item::Increment, next),
-        b'?' => lexed(Item::If, next),
-        b't' => lexed(Item::Then, next),
-        b'e' => lexed(Item::Else, next),
-        b';' => lexed(Item::End, next),
-        _ => other_at(s, j),
+        b'+' => other(Item::Binary(Operator::Add), next),
+        b'-' => other(Item::Binary(Operator::Subtract), next),
+        b'*' => other(Item::Binary(Operator::Multiply), next),
+        b'/' => other(Item::Binary(Operator::Divide), next),
+        b'm' => other(Item::Binary(Operator::Remainder), next),
+        b'&' => other(Item::Binary(Operator::BitAnd), next),
+        b'|' => other(Item::Binary(Operator::BitOr), next),
+        b'^' => other(Item::Binary(Operator::BitXor), next),
+        b'=' => other(Item::Binary(Operator::Equal), next),
+        b'>' => other(Item::Binary(Operator::Greater), next),
+        b'<' => other(Item::Binary(Operator::Less), next),
+        b'A' => other(Item::Binary(Operator::And), next),
+        b'O' => other(Item::Binary(Operator::Or), next),
+        b'!' => other(Item::Not, next),
+        b'~' => other(Item::Invert, next),
+        _ => filled_at(s, j),
     }
 }
 
-// The item that starts at a place.
-pub fn item_at(s: &[u8], i: usize) -> Lexed
-    requires { ⌜ i < length (now s) ⌝ }
-    ensures { λ r. ⌜ r ≡ itemAt (now (s .entry)) i ⌝ }
+// The right item that starts at a place.
+pub fn item_at(s: &[u8], i: usize) -> RunItem
+    requires { ⌜ RightItem (now s) i ⌝ }
+    ensures { λ r. ⌜ ReadAs (now (s .entry)) i r ⌝ }
 {
     let c = s[i];
-    if c == 0 {
-        return Lexed {
-            item: Item::Wrong,
-            next: i + 1,
-        };
+    if c != b'%' {
+        return RunItem::Byte(c);
     }
-    if c == b'%' {
-        return percent_at(s, i + 1);
-    }
-    Lexed {
-        item: Item::Byte(c),
-        next: i + 1,
+    match s[i + 1] {
+        b'p' => RunItem::Argument((s[i + 2] - 49) as usize),
+        39 => other(Item::Constant(s[i + 2] as i32), i + 4),
+        b'{' => braced_at(s, i + 1),
+        b'?' => RunItem::If,
+        b't' => RunItem::Then,
+        b'e' => RunItem::Else,
+        b';' => RunItem::End,
+        b'i' => RunItem::Increment,
+        _ => other_at(s, i + 1),
     }
 }

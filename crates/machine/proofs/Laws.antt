@@ -7,17 +7,16 @@ use Prim.Native.Nat.{ℕ, _+_, _-_, _<_}
 use native.Mathlib.Omega.{arith}
 use lib.Dec.{leb}
 use lib.IntN.{ℤ}
-use lib.ListN.{length, set, length-set}
+use lib.ListN.{length}
 use Rattle.base.specs.If.{if_then_else_}
 use Rattle.base.specs.Overwrite.{putAt}
 use Rattle.base.proofs.OverwriteLaws.{put-nil}
 use Rattle.expansion.specs.declared.Item.{Item}
 use Rattle.expansion.specs.declared.Item.the-variants as I
 use Rattle.print.specs.Emit.{emitted}
-use Rattle.expansion.specs.Machine.{Value, Machine, Effect, prints, pushes, stores, increments, toElse, toEnd, arity, effect, loaded, stored, incremented}
+use Rattle.expansion.specs.Machine.{Value, arity, effect, loaded}
 use Rattle.machine.specs.declared.Step.the-variants.{Go}
 use Rattle.variables.specs.Machines.{machine}
-use Rattle.machine.specs.Steps.{machineAfter}
 
 pub emitted-nothing : (b : List ℕ) (at : ℕ) → b ≡ emitted b at []
 unfolding emitted
@@ -50,18 +49,3 @@ effect-same I.Then st st′ x y z a a′ b b′ h g = rw (h (omega arith))
 effect-same I.Else st st′ x y z a a′ b b′ h g = refl
 effect-same I.End st st′ x y z a a′ b b′ h g = refl
 effect-same I.Wrong st st′ x y z a a′ b b′ h g = refl
-
--- a step keeps the arguments' count
-pub arguments-kept : (e : Effect) (m : Machine) → length (machineAfter e m .arguments) ≡ length (m .arguments)
-unfolding machineAfter stored incremented
-arguments-kept (prints bytes) m = refl
-arguments-kept (pushes v) m = refl
-arguments-kept (stores c v) m = by-test (leb c 90)
-  where
-    by-test : (t : Bool) → length ((if t then machine (m .stack) (m .arguments) (m .locals) (set (m .lasting) (c - 65) v)
-        else machine (m .stack) (m .arguments) (set (m .locals) (c - 97) v) (m .lasting)) .arguments) ≡ length (m .arguments)
-    by-test true = refl
-    by-test false = refl
-arguments-kept increments m = rw (length-set, length-set)
-arguments-kept toElse m = refl
-arguments-kept toEnd m = refl

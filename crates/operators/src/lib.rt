@@ -68,12 +68,6 @@ pub fn applied(o: Operator, a: i32, b: i32) -> i32
     }
 }
 
-pub fn is_zero(v: i32) -> bool
-    ensures { λ r. ⌜ r ≡ isZero v ⌝ }
-{
-    v == 0
-}
-
 // `%!`
 pub fn negated(v: i32) -> i32
     ensures { λ r. ⌜ r ≡ truth (isZero v) ⌝ }

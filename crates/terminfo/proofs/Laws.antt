@@ -4,6 +4,7 @@ use mathlib.Core.Path.{_≡_, refl, sym, ap, _∙_}
 use mathlib.Core.List.{List, [], _∷_}
 use Prim.Native.Nat.{ℕ, _≤_, _<_}
 use lib.Dec.{eqb}
+use lib.ListN.{length}
 use lib.IntN.{ℤ}
 use borrow.Author.Tests.{le-leb, lt-leb}
 use Rattle.edition.specs.declared.Edition.{Edition}
@@ -45,7 +46,7 @@ module _ (e : Edition) (f : List ℕ) (p : Place) (arguments : List ℤ) (size a
   written-asked b′ r a h q w = rw (le-leb at size h, ← q) w
 
   pub written-present : (b′ s : List ℕ) (r : Expanded) (v : List ℤ) (q : Part) → at ≤ size → gives (present q) ≡ askingString e f p
-      → s ≡ bytesOf f q → v ≡ zeroLasting → ExpandedAs (expanding s arguments v size at) v b at b′ r
+      → s ≡ bytesOf f q → v ≡ zeroLasting → ExpandedAs (length s) (expanding s arguments v size at) v b at b′ r
       → WrittenAs (expandingAt e f p arguments size at) b at b′ (X.Expansion (r .answer))
   written-present b′ s r v q l g h z w =
       let a = expanding s arguments v size at in

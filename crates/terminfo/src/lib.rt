@@ -129,9 +129,9 @@ pub fn expand(
     out: &mut [u8],
     at: usize,
 ) -> Expansion
-    ensures { λ r. ⌜ LentAs (expanding (now (string .entry)) arguments (now (lasting .entry) .values)
-        (length (now (out .entry))) at) (now (lasting .entry) .values) (now (lasting .exit) .values)
-        (now (out .entry)) at (now (out .exit)) r ⌝ }
+    ensures { λ r. ⌜ LentAs (length (now (string .entry))) (expanding (now (string .entry)) arguments
+        (now (lasting .entry) .values) (length (now (out .entry))) at) (now (lasting .entry) .values)
+        (now (lasting .exit) .values) (now (out .entry)) at (now (out .exit)) r ⌝ }
 {
     let e = expand::expand(string, arguments, *lasting, out, at);
     *lasting = e.lasting;

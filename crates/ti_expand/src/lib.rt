@@ -1,5 +1,6 @@
 // `ti expand [-v] [-e EDITION] FILE CAPABILITY [NUMBER]..`: expands a capability of a compiled file with up to nine
-// numbers, through the library only. The output goes to standard output as it is; with -v, shown, and then the steps.
+// numbers, through the library only. The output goes to standard output as it is; with -v, shown, and then the steps
+// and the bytes, each with its bound.
 // Proved: it is safe and ends; a word's number is that of number_words/specs, what is expanded is the file's string, a
 // refusal's number is that of expansion/specs; what stands for a byte is what shown/specs says. Assumed: what libc and
 // os say of C.
@@ -28,8 +29,11 @@ use ti_options::Outcome;
 
 mod opened;
 
-// Room for the output of any string: each of 1,000 items prints less than 255 bytes.
-const OUTPUT_ROOM: usize = 255000;
+// The bytes of output for a byte of the string, at most (`bounded` of room_laws).
+const ROOM_FOR_BYTE: usize = 25;
+
+// Room for the output of any string.
+const OUTPUT_ROOM: usize = 25000;
 
 // The most operands: the file, the capability, nine numbers.
 const OPERANDS_MOST: usize = 11;
@@ -39,8 +43,9 @@ fn describe(words: Words) -> Status {
         words,
         b"expand [-v] [-e EDITION] FILE CAPABILITY [NUMBER]..",
         b"Expands a string capability of a compiled file with up to nine numbers, 0 for those not given, and\n\
-            writes the bytes. With -v they are shown as `ti show` shows them, and then the steps. The file is\n\
-            read in the second edition, or the one behind -e: 1, 2 or its three counts, as 21,8,138.\n",
+            writes the bytes. With -v they are shown as `ti show` shows them, and then the steps and the bytes,\n\
+            each with the most that the string's length allows. The file is read in the second edition, or the\n\
+            one behind -e: 1, 2 or its three counts, as 21,8,138.\n",
     )
 }
 
@@ -99,11 +104,19 @@ fn numbers_from(first: usize) -> [i32; 9]
     ]
 }
 
-// Writes the output.
-fn say_output(output: &[u8], steps: usize, is_verbose: bool) -> Status {
+// Says a count, what is counted and the most that it can be.
+fn say_count(count: usize, what: &[u8], most: usize) -> bool {
+    say_number(count) & say(what) & say(b" (at most ") & say_number(most) & say(b")")
+}
+
+// Writes the output of a string of so many bytes.
+fn say_output(output: &[u8], steps: usize, length: u16, is_verbose: bool) -> Status {
     if is_verbose {
+        let n = length as usize;
         let shown = ti_common::output::say_shown(output, CONTENT_LEAST) & say(b"\n");
-        return ti_common::written(shown & say_number(steps) & say(b" steps\n"));
+        let taken = shown & say_count(steps, b" steps", n) & say(b", ");
+        let made = taken & say_count(output.len(), b" bytes", ROOM_FOR_BYTE * n) & say(b"\n");
+        return ti_common::written(made);
     }
     ti_common::written(say(output))
 }
@@ -129,19 +142,20 @@ fn refuse(path: &[u8], name: &[u8], sentence: &[u8], number: u8) -> Status {
     ti_refusals::end(number)
 }
 
-// Writes what expanding gave, or says the refusal.
+// Writes what expanding a string of so many bytes gave, or says the refusal.
 fn say_expansion(
     path: &[u8],
     name: &[u8],
+    length: u16,
     out: &[u8],
     answer: Expansion,
     is_verbose: bool,
 ) -> Status {
     let number = refusal_numbers::of_expansion(answer);
     match answer {
-        Expansion::Done { length, steps } => {
-            let k = ti_common::part(length, out);
-            say_output(&out[..k], steps, is_verbose)
+        Expansion::Done { length: n, steps } => {
+            let k = ti_common::part(n, out);
+            say_output(&out[..k], steps, length, is_verbose)
         }
         Expansion::Place => refuse(path, name, b": the place is beyond the edition", number),
         Expansion::Length => refuse(
@@ -196,10 +210,13 @@ fn expand_string(
     requires { ⌜ saysOpened opened ≡ opening edition (now file) ⌝ }
 {
     let mut out = [0u8; OUTPUT_ROOM];
+    let length = opened::string_length(file, edition, opened, place);
     match opened::expand_opened(file, edition, opened, place, values, &mut out, 0) {
         ExpandedString::Absent => refuse_state(path, name, b" is absent\n"),
         ExpandedString::Cancelled => refuse_state(path, name, b" is cancelled\n"),
-        ExpandedString::Expansion(answer) => say_expansion(path, name, &out, answer, is_verbose),
+        ExpandedString::Expansion(answer) => {
+            say_expansion(path, name, length, &out, answer, is_verbose)
+        }
     }
 }
 

@@ -41,3 +41,19 @@ pub fn expand_opened(
         StringState::Refused => ExpandedString::Expansion(Expansion::Place),
     }
 }
+
+// The length of the string at a place; for one that is too long to be expanded the most, and 0 where there is none.
+pub fn string_length(file: &[u8], edition: Edition, opened: Opened, place: Place) -> u16
+    requires { ⌜ saysOpened opened ≡ opening edition (now file) ⌝ }
+{
+    match opened_file::string_if_opened(file, edition, opened, place) {
+        StringState::Present(p) => if 1000 < p.length {
+            1000
+        } else {
+            p.length as u16
+        },
+        StringState::Absent => 0,
+        StringState::Cancelled => 0,
+        StringState::Refused => 0,
+    }
+}

@@ -1,11 +1,11 @@
-// The variables a to z and A to Z, and the arguments that `%i` changes (document 01: Expansion). Proved: each
-// function is its definition of expansion/specs. Assumed: nothing.
+// The variables a to z and A to Z (document 01: Expansion). Proved: each function is its definition of
+// expansion/specs. Assumed: nothing.
 ghost use mathlib.Core.Path.{_≡_};
 ghost use mathlib.Core.List.{List};
 ghost use Prim.Native.Nat.{_-_};
 ghost use lib.IntN.{ℤ, pos};
-ghost use lib.ListN.{length, getD, set};
-ghost use Rattle.expansion.specs.Machine.{Value, loaded, stored, incremented};
+ghost use lib.ListN.{getD, set};
+ghost use Rattle.expansion.specs.Machine.{Value, loaded, stored};
 ghost use Rattle.variables.specs.Machines.{machine};
 
 // How far a letter stands behind the first one.
@@ -16,7 +16,7 @@ fn letter_place(c: u8, first: u8) -> usize
 }
 
 // The value at a place of a list, or 0 past its end.
-pub fn value_at(values: &[i32], k: usize) -> i32
+fn value_at(values: &[i32], k: usize) -> i32
     ensures { λ r. ⌜ r ≡ getD (now (values .entry)) k (pos 0) ⌝ }
 {
     if k < values.len() { values[k] } else { 0 }
@@ -54,15 +54,4 @@ pub fn store(locals: &mut [i32; 26], lasting: &mut [i32; 26], c: u8, v: i32)
     } else {
         set_value(locals, letter_place(c, b'a'), v);
     }
-}
-
-// `%i`
-pub fn increment(arguments: &mut [i32; 9])
-    requires { ⌜ length (now arguments) ≡ 9 ⌝ }
-    ensures { λ _. ⌜ now (arguments .exit) ≡ incremented (now (arguments .entry)) ⌝ }
-{
-    let a = signed::wrapping_add(arguments[0], 1);
-    let b = signed::wrapping_add(arguments[1], 1);
-    arguments[0] = a;
-    arguments[1] = b;
 }

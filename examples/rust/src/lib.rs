@@ -313,7 +313,13 @@ pub struct Expanded {
     pub steps: usize,
 }
 
-/// Expands a parameterized string. A refused expansion leaves the lasting variables as they were.
+/// How many bytes `expand` gives at most for a string of this length.
+pub const fn expand_room(length: usize) -> usize {
+    length.saturating_mul(25)
+}
+
+/// Expands a parameterized string. A refused expansion leaves the lasting variables as they were. The
+/// steps are at most as many as the string has bytes, the bytes at most `expand_room` of its length.
 pub fn expand(
     string: &[u8], arguments: [i32; 9], lasting: &mut Lasting,
 ) -> Result<Expanded, Refusal> {

@@ -262,6 +262,19 @@ fn strings_are_expanded() {
 }
 
 #[test]
+fn an_expansion_is_within_its_bounds() {
+    const ROOM: usize = expand_room(994);
+    let string = b"%p1%99d".repeat(142);
+    assert_eq!((string.len(), ROOM), (994, 24_850));
+    let (bytes, steps) = expanded(&string, &[1]).unwrap();
+    assert_eq!((bytes.len(), steps), (142 * 99, 284));
+    for string in [&b""[..], b"x", b"%%", b"%{1}%9d", b"%p1%o", b"%?%p1%t%p1%099d%;", &string] {
+        let (bytes, steps) = expanded(string, &[i32::MIN]).unwrap();
+        assert!(bytes.len() <= expand_room(string.len()) && steps <= string.len());
+    }
+}
+
+#[test]
 fn lasting_variables_last_unless_refused() -> Result<(), Refusal> {
     let mut lasting = Lasting::default();
     expand(b"%p1%PZ", values(&[7]), &mut lasting)?;

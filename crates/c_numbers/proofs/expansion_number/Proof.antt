@@ -1,6 +1,10 @@
 -- `c_numbers::expansion_number` meets its contract, case by case.
 -- Assumes nothing.
-use Rattle.c_numbers.specs.Numbers.{expansionNumber}
+use mathlib.Core.Path.{subst}
+use native.Mathlib.Omega.{arith}
+use Rattle.expansion.specs.Limits.{stringMost}
+use Rattle.expansion.specs.Expanding.{Within}
+use Rattle.c_numbers.specs.Numbers.{numbered}
 use borrow.Author.Needs.{needs}
 use Rattle.c_numbers.proofs.expansion_number.Statement.{statement}
 use Rattle.c_numbers.proofs.expansion_number.Tie as tie
@@ -15,10 +19,14 @@ enum-known-e : tie.Need-enum-known-e
 enum-known-e c = search needs
 
 mul-result : tie.Need-mul-result
-mul-result c = search needs
+mul-result c =
+    let h = subst (Within stringMost) (c .before .e .given .1) (c .before .before .before .before .before .pre) in
+    omega arith
 
 add-result : tie.Need-add-result
-add-result c = search needs
+add-result c =
+    let h = subst (Within stringMost) (c .before .e .given .1) (c .before .before .before .before .before .pre) in
+    omega arith
 
 enum-told : tie.Need-enum-told
 enum-told c = search needs
@@ -30,32 +38,40 @@ enum-known-e-2 : tie.Need-enum-known-e-2
 enum-known-e-2 c = search needs
 
 add-result-2 : tie.Need-add-result-2
-add-result-2 c = search needs
+add-result-2 c =
+    let h = subst (Within stringMost) (c .before .e2 .given .1) (c .before .before .before .before .before .pre) in
+    omega arith
 
 enum-known-e-3 : tie.Need-enum-known-e-3
 enum-known-e-3 c = search needs
 
 add-result-3 : tie.Need-add-result-3
-add-result-3 c = search needs
+add-result-3 c =
+    let h = subst (Within stringMost) (c .before .e3 .given .1) (c .before .before .before .before .before .pre) in
+    omega arith
 
 enum-known-e-4 : tie.Need-enum-known-e-4
 enum-known-e-4 c = search needs
 
 add-result-4 : tie.Need-add-result-4
-add-result-4 c = search needs
+add-result-4 c =
+    let h = subst (Within stringMost) (c .before .e4 .given .1) (c .before .before .before .before .before .pre) in
+    omega arith
 
 enum-known-e-5 : tie.Need-enum-known-e-5
 enum-known-e-5 c = search needs
 
 add-result-5 : tie.Need-add-result-5
-add-result-5 c = search needs
+add-result-5 c =
+    let h = subst (Within stringMost) (c .before .e5 .given .1) (c .before .before .before .before .before .pre) in
+    omega arith
 
 returns : tie.Need-returns
-unfolding expansionNumber
+unfolding numbered
 returns c = rw (c .before .e .given .1)
 
 returns-2 : tie.Need-returns-2
-unfolding expansionNumber
+unfolding numbered
 returns-2 c =
     rw (
       c .before .before .top .ensures,
@@ -64,7 +80,7 @@ returns-2 c =
     )
 
 returns-3 : tie.Need-returns-3
-unfolding expansionNumber
+unfolding numbered
 returns-3 c =
     rw (
       c .before .before .top .ensures,
@@ -73,7 +89,7 @@ returns-3 c =
     )
 
 returns-4 : tie.Need-returns-4
-unfolding expansionNumber
+unfolding numbered
 returns-4 c =
     rw (
       c .before .before .before .top .ensures,
@@ -82,7 +98,7 @@ returns-4 c =
     )
 
 returns-5 : tie.Need-returns-5
-unfolding expansionNumber
+unfolding numbered
 returns-5 c =
     rw (
       c .before .before .before .top .ensures,
@@ -91,7 +107,7 @@ returns-5 c =
     )
 
 returns-6 : tie.Need-returns-6
-unfolding expansionNumber
+unfolding numbered
 returns-6 c =
     rw (
       c .before .before .before .top .ensures,
@@ -100,7 +116,7 @@ returns-6 c =
     )
 
 returns-7 : tie.Need-returns-7
-unfolding expansionNumber
+unfolding numbered
 returns-7 c =
     rw (
       c .before .before .before .top .ensures,

@@ -1,7 +1,5 @@
 -- `entry_numbers::refusal_in` meets its contract: the numbers compared with what opening gives, then with an edition's
 -- refusal.
-use mathlib.Core.Path.{ap, _∙_}
-use Rattle.entry_numbers.specs.Entries.{refusalOf}
 use Rattle.entry_numbers.proofs.EntryLaws.{refusal-own, refusal-large, refusal-other}
 use borrow.Author.Needs.{needs}
 use Rattle.entry_numbers.proofs.refusal_in.Statement.{statement}

@@ -3,9 +3,6 @@ use Rattle.entry_numbers.proofs.EntryLaws.{compared}
 use borrow.Author.Needs.{needs}
 use Rattle.entry_numbers.proofs.same_numbers.Statement.{statement}
 use Rattle.entry_numbers.proofs.same_numbers.Tie as tie
-use Rattle.entry_numbers.proofs.same_beyond.Reads as same-beyond-reads
-use Rattle.entry_numbers.proofs.same_edition.Reads as same-edition-reads
-use Rattle.entry_numbers.proofs.same_tables.Reads as same-tables-reads
 
 same-edition-requires : tie.Need-same-edition-requires
 same-edition-requires c κs = search needs

@@ -1,17 +1,14 @@
 -- `expand::expand_lent` meets its contract: its tests stand in the definition's order, and the part that is lent is the buffer from the place on.
 -- Assumes nothing.
-use mathlib.Core.Path.{_≡_, refl}
-use Prim.Native.Nat.{_-_}
-use native.Mathlib.Omega.{arith}
+use mathlib.Core.Path.{refl}
 use lib.ListN.{length}
 use borrow.Author.Needs.{needs}
 use borrow.Author.Tests.{le-leb, lt-leb}
-use borrow.Rule.Slice.PartMut.{midOf, mid-len}
 use Rattle.expansion.specs.Limits.{stringMost}
 use Rattle.expansion.specs.Form.{formOf}
 use Rattle.expansion.specs.Machine.{run}
-use Rattle.expansion.specs.Expanding.{ended, formed, expanding}
-use Rattle.expand_output.proofs.AnswerLaws.{given-fits, answer-part}
+use Rattle.expansion.specs.Expanding.{expanding}
+use Rattle.expand_output.proofs.AnswerLaws.{answer-part}
 use Rattle.expand.proofs.expand_lent.Statement.{statement}
 use Rattle.expand.proofs.expand_lent.Tie as tie
 
@@ -19,25 +16,20 @@ returns : tie.Need-returns
 unfolding expanding
 returns c =
     let a = c .before .before .before .args in
-    rw (lt-leb (a .at) (length (a .out .now)) (c .if1 .taken)) (record { answer = refl; lasting = refl; output = refl })
+    rw (lt-leb (a .at) (length (a .out .now)) (c .if1 .taken)) (record { answer = refl; lasting = refl; output = refl; within = tt })
 
 returns-2 : tie.Need-returns-2
 unfolding expanding
 returns-2 c =
     let a = c .before .before .before .before .args in
-    rw (le-leb (a .at) (length (a .out .now)) (c .before .if1 .left), lt-leb (length (a .string .now)) stringMost (c .if2 .taken)) (record { answer = refl; lasting = refl; output = refl })
+    rw (le-leb (a .at) (length (a .out .now)) (c .before .if1 .left), lt-leb (length (a .string .now)) stringMost (c .if2 .taken)) (record { answer = refl; lasting = refl; output = refl; within = tt })
 
 returns-3 : tie.Need-returns-3
 unfolding expanding
 returns-3 c =
     let a = c .before .before .before .before .before .before .before .before .before .before .before .args in
-    let k = length (a .out .now) - a .at in
-    let f = formOf (a .string .now) in
-    let y = run (a .string .now) (a .arguments) (a .lasting .now) in
-    let e : length (midOf (a .at) k (a .out .now)) ≡ k = mid-len (a .at) (length (a .out .now)) (a .out .now) (omega arith) in
-    let p = rw e at (c .before .before .before .expand-into .ensures) in
     rw (le-leb (a .at) (length (a .out .now)) (c .before .before .before .before .before .before .before .before .if1 .left), le-leb (length (a .string .now)) stringMost (c .before .before .before .before .before .before .before .if2 .left))
-    (answer-part (formed f (ended y k)) (a .lasting .now) _ (a .out .now) _ (a .at) k _ (omega arith) (given-fits f y k) p)
+    (answer-part (formOf (a .string .now)) (run (a .string .now) (a .arguments) (a .lasting .now)) (a .out .now) (a .at) (c .before .before .before .before .before .before .before .before .if1 .left) (c .before .before .before .expand-into .ensures))
 
 pub expand-lent-spec : {M : Type 1} → statement M
 expand-lent-spec =

@@ -1,17 +1,24 @@
--- `items::format_at` meets its contract: the arms are the definition's tests, at the byte read.
+-- `items::format_at` meets its contract: the arms are the definition's tests, and the last letter is X, since the item is right.
 -- Assumes nothing.
-use mathlib.Core.Path.{sym, _∙_}
-use borrow.Author.Tests.{ne-eqb}
-use Rattle.expansion.specs.Items.{formatAt}
+use mathlib.Core.Path.{ap, _∙_}
+use Prim.Native.Nat.{_<_}
+use native.Mathlib.Omega.{arith}
 use borrow.Author.Needs.{needs}
+use lib.ListN.{length}
+use Rattle.expansion.specs.Items.{formatAt}
+use Rattle.items.specs.Parts.{otherItem}
+use Rattle.items.proofs.Laws.{format-inside, format-capital}
 use Rattle.items.proofs.format_at.Statement.{statement}
 use Rattle.items.proofs.format_at.Tie as tie
 
-byte-at-requires : tie.Need-byte-at-requires
-byte-at-requires c κs = search needs
+inside : (c : tie.Start) → c .args .k < length (c .args .s .now)
+inside c = format-inside (c .args .s .now) (c .args .k) (c .args .zero) (c .args .width) (c .pre)
+
+shared-slice-read-c : tie.Need-shared-slice-read-c
+shared-slice-read-c c = inside (c .before .before)
 
 add-next : tie.Need-add-next
-add-next c = search needs
+add-next c = omega (arith, inside (c .before .before))
 
 number-requires : tie.Need-number-requires
 number-requires c κs = search needs
@@ -25,45 +32,35 @@ number-requires-3 c κs = search needs
 number-requires-4 : tie.Need-number-requires-4
 number-requires-4 c κs = search needs
 
-lexed-requires : tie.Need-lexed-requires
-lexed-requires c κs = search needs
-
 returns : tie.Need-returns
 unfolding formatAt
-returns c = rw (sym (c .before .before .byte-at .ensures) ∙ c .before .match .keys1) (c .number .ensures)
+returns c = rw (c .before .match .keys1) (c .number .ensures)
 
 returns-2 : tie.Need-returns-2
 unfolding formatAt
-returns-2 c = rw (sym (c .before .before .byte-at .ensures) ∙ c .before .match .keys2) (c .number2 .ensures)
+returns-2 c = rw (c .before .match .keys2) (c .number2 .ensures)
 
 returns-3 : tie.Need-returns-3
 unfolding formatAt
-returns-3 c = rw (sym (c .before .before .byte-at .ensures) ∙ c .before .match .keys3) (c .number3 .ensures)
+returns-3 c = rw (c .before .match .keys3) (c .number3 .ensures)
 
 returns-4 : tie.Need-returns-4
-unfolding formatAt
-returns-4 c = rw (sym (c .before .before .byte-at .ensures) ∙ c .before .match .keys4) (c .number4 .ensures)
-
-returns-5 : tie.Need-returns-5
-unfolding formatAt
-returns-5 c =
-    let x = c .before .before .byte-at .result in
+returns-4 c =
+    let b = c .before .before .before .before in
     let r = c .before .match .rest in
-    rw (← c .before .before .byte-at .ensures, ne-eqb x 100 (r .0 .0 .0 .1), ne-eqb x 111 (r .0 .0 .1), ne-eqb x 120 (r .0 .1), ne-eqb x 88 (r .1)) (c .lexed .ensures)
+    c .number4 .ensures ∙ ap otherItem (format-capital (b .args .s .now) (b .args .k) (b .args .zero) (b .args .width) (b .pre) (r .0 .0 .1) (r .0 .1) (r .1))
 
 pub format-at-spec : {M : Type 1} → statement M
 format-at-spec =
     tie.close
     (tie.spec
-    byte-at-requires
+    shared-slice-read-c
     add-next
     number-requires
     number-requires-2
     number-requires-3
     number-requires-4
-    lexed-requires
     returns
     returns-2
     returns-3
-    returns-4
-    returns-5)
+    returns-4)

@@ -115,7 +115,7 @@ module _ {M : Type 1} (𝓤 : URA M) (H : Heap 𝓤) (A : Atoms 𝓤) (W : Given
   to = (((κ₀, (κ₂, tt)), (q₀, (q₂, tt)), tt, given, passed), tt)
 
   abbrev Claim : Expanded → List ℕ → Type 0
-  Claim r zs = ExpandedAs (expanding (now s) xs (h .values) (length ys) n) (h .values) ys n zs r
+  Claim r zs = ExpandedAs (length (now s)) (expanding (now s) xs (h .values) (length ys) n) (h .values) ys n zs r
 
   abbrev Post : Val → SProp 𝓤
   Post = walkOf 𝓤 H A f.ended stayed (f.clauses 𝓤 H A at-mem run) .post (((κ₀, (κ₁, (κ₂, tt))), (q₀, (q₁, (q₂, tt))), tt, x, at), tt)
@@ -140,7 +140,7 @@ module _ {M : Type 1} (𝓤 : URA M) (H : Heap 𝓤) (A : Atoms 𝓤) (W : Given
       → ent 𝓤 (⋆ 𝓤 H A (‵ (fobs γ (L.the-row .coded .code (r .lasting))) ∷ ‵ (fbor κ₁ (Body (mem L.the-row) b o γ)) ∷ ‵ (flft κ₁ q₁) ∷ (‵ (flft κ₀ q₀) ⊛ (‵ (flft κ₂ q₂) ⊛ ‵ ftrue)) ∷ ‵ (finally u8 δ zs) ∷ [])) (Post (av r))
   exits r zs e k isa =
       qed W (‵ (fobs γ (L.the-row .coded .code (r .lasting))) ∷ ‵ (fbor κ₁ (Body (mem L.the-row) b o γ)) ∷ ‵ (flft κ₁ q₁) ∷ (‵ (flft κ₀ q₀) ⊛ (‵ (flft κ₂ q₂) ⊛ ‵ ftrue)) ∷ ‵ (finally u8 δ zs) ∷ []) ∵
-      suffices ! _ (ends-at 𝓤 H A f.ended stayed (f.clauses 𝓤 H A at-mem run) W (((κ₀, (κ₁, (κ₂, tt))), (q₀, (q₁, (q₂, tt))), tt, x, at), tt) (av r) (r .answer) (tt, (tt, (r .lasting, (zs, (tt, tt))))) (tt, (tt, (tt, (k, (tt, tt)))))) $ says ! (record { answer = e .answer; lasting = e .lasting; output = e .output }) $
+      suffices ! _ (ends-at 𝓤 H A f.ended stayed (f.clauses 𝓤 H A at-mem run) W (((κ₀, (κ₁, (κ₂, tt))), (q₀, (q₁, (q₂, tt))), tt, x, at), tt) (av r) (r .answer) (tt, (tt, (r .lasting, (zs, (tt, tt))))) (tt, (tt, (tt, (k, (tt, tt)))))) $ says ! (record { answer = e .answer; lasting = e .lasting; output = e .output; within = e .within }) $
       move ! (3 ∷ []) $ split ! $ move ! (1 ∷ []) $ move ! (4 ∷ 0 ∷ []) $ join ! $ move ! (1 ∷ 0 ∷ []) $ join ! $ frame ! $
       -- [what observes the variables; their borrow; the last bytes]
       feqI ! (List Val) (vptr b o ∷ []) (vptr b o ∷ []) refl $ fjoin3 ! $ nothing ! $ nothing ! $ fjoin ! $ move ! (2 ∷ 0 ∷ []) $ fjoin ! $ move ! (1 ∷ 0 ∷ []) $ fjoin ! $ nothing ! $ fjoin ! $ nothing ! $ fjoin ! $ frame ! $

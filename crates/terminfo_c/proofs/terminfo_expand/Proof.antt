@@ -1,7 +1,9 @@
 -- `terminfo_c::terminfo_expand` meets its contract: what expanding answers, as a number.
 use mathlib.Core.Path.{ap, _∙_}
-use Rattle.c_numbers.specs.Numbers.{expansionNumber}
+use Rattle.c_numbers.specs.Numbers.{numbered, countsCode}
+use lib.ListN.{length}
 use borrow.Author.Needs.{needs}
+use Rattle.terminfo_c.proofs.ExpansionLaws.{within-most}
 use Rattle.terminfo_c.proofs.terminfo_expand.Statement.{statement}
 use Rattle.terminfo_c.proofs.terminfo_expand.Tie as tie
 
@@ -9,7 +11,10 @@ expand-lent-requires : tie.Need-expand-lent-requires
 expand-lent-requires c κs = search needs
 
 expansion-number-requires : tie.Need-expansion-number-requires
-expansion-number-requires c κs = search needs
+expansion-number-requires c κs =
+    let a = c .before .before .before .before .before .before .before .before .args in
+    let r = c .before .before .expand-lent .ensures in
+    within-most (a .string .now) (a .arguments .now) (a .lasting .now) (length (a .buffer .now)) (a .at) (c .before .before .expand-lent .result) (r .answer) (r .within)
 
 same-length : tie.Need-same-length
 same-length c = search needs
@@ -17,7 +22,7 @@ same-length c = search needs
 returns : tie.Need-returns
 returns c =
     let r = c .before .before .before .expand-lent .ensures in
-    record { number = c .expansion-number .ensures ∙ ap expansionNumber (r .answer); lasting = r .lasting; output = r .output }
+    record { number = c .expansion-number .ensures ∙ ap (numbered countsCode) (r .answer); lasting = r .lasting; output = r .output }
 
 pub terminfo-expand-spec : {M : Type 1} → statement M
 terminfo-expand-spec =
