@@ -432,7 +432,7 @@ uint64_t terminfo_capability(uint8_t kind, size_t place);
  * the place of the first wrong item, or the string's length for an open conditional), 15 and 16 (give
  * the place of the item at which the expansion stops), 8 (gives the output's length: terminfo_value).
  *
- * Uses at most 1,168 bytes of stack. */
+ * Uses at most 712 bytes of stack. */
 uint64_t terminfo_expand(const uint8_t *string, size_t string_length, const int32_t arguments[9],
                          int32_t lasting[26], uint8_t *buffer, size_t buffer_length, size_t at);
 

@@ -78,7 +78,7 @@ enum-known-length : tie.Need-enum-known-length Inv-loop μ-loop
 enum-known-length c = search needs
 
 copy-requires-4 : tie.Need-copy-requires-4 Inv-loop μ-loop
-copy-requires-4 c κs = (T.room-held (c .before .before .before .before .before .before .before .before .before .before .before .before .loop .inv) (c .before .before .before .before .before .before .before .before .run .ensures) (c .before .before .before .before .before .before .before .before .run .kept .1 .1 .1 .0) (c .before .before .before .before .length .given .1) (c .before .before .if2 .taken), omega (arith, (c .before .before .before .before .before .before .before .before .before .before .before .before .loop .inv) .inside, T.after-same (c .before .before .before .before .before .before .before .before .before .before .before .before .loop .inv) (c .before .before .before .before .before .before .before .before .run .ensures) (c .before .before .before .before .before .before .before .before .run .kept .1 .1 .1 .0)))
+copy-requires-4 c κs = (omega (arith, T.room-held (c .before .before .before .before .before .before .before .before .before .before .before .before .loop .inv) (c .before .before .before .before .before .before .before .before .run .ensures) (c .before .before .before .before .before .before .before .before .run .kept .1 .1 .1 .0) (c .before .before .before .before .length .given .1) (c .before .before .if2 .taken)), omega (arith, (c .before .before .before .before .before .before .before .before .before .before .before .before .loop .inv) .inside, T.after-same (c .before .before .before .before .before .before .before .before .before .before .before .before .loop .inv) (c .before .before .before .before .before .before .before .before .run .ensures) (c .before .before .before .before .before .before .before .before .run .kept .1 .1 .1 .0)))
 
 same-length-5 : tie.Need-same-length-5 Inv-loop μ-loop
 same-length-5 c = c .before .before .before .before .before .before .before .before .before .before .before .before .before .before .before .before .before .before .copy .kept .1 .1 .0
