@@ -428,6 +428,9 @@ uint64_t terminfo_capability(uint8_t kind, size_t place);
  * also where 8 gives its length. So 8 is not given where buffer_length is at least
  * at + TERMINFO_EXPAND_ROOM(string_length) (the theorem bounded of room_laws).
  *
+ * While the call runs it writes into the buffer from at on; where it is refused, the bytes are put
+ * back before it returns.
+ *
  * Refusals, the first that applies: 17 (at is above buffer_length), 1 (above 1,000 bytes), 14 (gives
  * the place of the first wrong item, or the string's length for an open conditional), 15 and 16 (give
  * the place of the item at which the expansion stops), 8 (gives the output's length: terminfo_value).

@@ -54,8 +54,7 @@ abbrev pub NameWithin : Name → Type 0
 NameWithin (A.Packed w) = w < 2 ^ 56
 NameWithin A.Beyond = Unit {0}
 
--- an expansion of a string of at most 1,000 bytes (`within` of LentAs in expand_output; by the theorem of room_laws it
--- follows from the definitions)
+-- an expansion of a string of at most 1,000 bytes, as the contract of expand::expand_lent has it (`within` of LentAs)
 abbrev pub ExpansionWithin : Expansion → Type 0
 ExpansionWithin r = Within stringMost r
 

@@ -206,7 +206,8 @@ fn quick_at(s: &[u8], i: usize) -> Quick
     quick_item(Class::Plain, i + 1)
 }
 
-// Passes over the items that are quickly told, and stops at any other, right or wrong, and at the last two places.
+// Passes over the items that are quickly told, and stops at any other, right or wrong, at one that may not stand there,
+// and at the last two places.
 fn scan(s: &[u8], from: usize, before: u64) -> Scanned
     requires { ⌜ before ≤ nestedMost ⌝ }
     ensures { λ r. ⌜ ScannedAs (now (s .entry)) from before r ⌝ }

@@ -1,4 +1,4 @@
--- Document 01's numbers for expansion, each by one name.
+-- Document 01's numbers for expansion, and document 02's, each by one name.
 -- Assumes nothing.
 use Prim.Native.Nat.{ℕ, _*_}
 

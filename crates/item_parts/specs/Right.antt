@@ -1,4 +1,4 @@
--- Items that are right, and those among them that need neither the arguments nor another place of the string.
+-- Items that are right; and items that need neither the arguments nor another place of the string.
 -- Assumes nothing.
 use mathlib.Core.Path.{_≡_}
 use mathlib.Core.List.{List}

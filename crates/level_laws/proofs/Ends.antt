@@ -3,7 +3,7 @@
 -- Assumes nothing.
 use mathlib.Core.Path.{_≡_, refl, sym, ap, _∙_, subst}
 use mathlib.Core.Bool.{Bool, true, false}
-use mathlib.Core.List.{List}
+use mathlib.Core.List.{List, []}
 use Prim.Native.Nat.{ℕ, zero, suc, _-_, _≤_, _<_}
 use native.Mathlib.Nat.{not-suc-le-zero}
 use native.Mathlib.Omega.{arith}
@@ -13,7 +13,7 @@ use Rattle.expansion.specs.declared.Class.the-variants.{Plain, If, Then, Else, 
 use Rattle.expansion.specs.Form.{classAt, Level, Nesting, levels, nesting}
 use Rattle.expansion.specs.Machine.{Passing, stops, opens, passing}
 use Rattle.item_parts.proofs.Laws.{item-inside}
-use Rattle.expansion_laws.specs.Forms.{class-on}
+use Rattle.expansion_laws.specs.Forms.{class-on, form-start}
 use Rattle.expansion_laws.specs.Passes.{passedTo}
 use Rattle.level_laws.specs.Levels.{Leaves, Leads, here, over, EndsLevel, LevelEnd}
 use Rattle.level_laws.specs.Levels.{RightFrom, OpenAt, RightAt}
@@ -167,6 +167,9 @@ levels-end s =
     record {
       ends = λ elses i o. let x = ended elses o in (x .place, level-end x, x .passed);
       one = λ elses i p q x y. let f = x .first q (y .ending) in let g = y .first p (x .ending) in omega arith;
+      start = λ e. record { around = []; right = sym (form-start s) ∙ e; inside = omega arith };
+      on = λ i r h. right-next s i (r .around) h (r .right);
+      past = λ elses i o. let x = ended elses o in rw (x .passed) (x .right);
       behind-then = λ i ls h c r. behind s i ls h r (λ ms q. open-then ls ms (by-class ls c q));
       behind-else = λ i ls h c r. behind s i ls h r (λ ms q. open-else ls ms (by-class ls c q));
     }

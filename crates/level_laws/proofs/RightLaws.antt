@@ -18,10 +18,10 @@ use Rattle.expansion_laws.specs.Forms.{formOfRest, formBehind, formAtEnd, class
 use Rattle.expansion_laws.specs.Passes.{passedTo}
 use Rattle.level_laws.specs.Levels.{PastLevel, OpenAt, RightAt}
 use Rattle.level_laws.proofs.OpenLaws.{right-there}
-use Rattle.level_laws.proofs.Ends.{right-next, ended, levels-end}
+use Rattle.level_laws.proofs.Ends.{levels-end}
 
 pub right-start : {s : List ℕ} → formOf s ≡ Right → RightAt s 0
-right-start {s} e = record { around = []; right = sym (form-start s) ∙ e; inside = omega arith }
+right-start {s} e = levels-end s .start e
 
 module _ {s : List ℕ} {i : ℕ} (r : RightAt s i) (h : i < length s) where
   pub right-item : RightItem s i
@@ -29,7 +29,7 @@ module _ {s : List ℕ} {i : ℕ} (r : RightAt s i) (h : i < length s) where
 
   pub right-on : RightAt s (itemAt s i .next)
   unfolding classAt
-  right-on = right-next s i (r .around) h (r .right)
+  right-on = levels-end s .on i r h
 
   pub right-then : itemAt s i .item ≡ I.Then → OpenAt s (itemAt s i .next) 0
   unfolding classAt classOf
@@ -50,7 +50,7 @@ past-passed {elses} {s} {i} {r} o (p, x, e) =
 
 -- the string is right there
 pub passed-right : (elses : Bool) {s : List ℕ} {i : ℕ} → OpenAt s i 0 → RightAt s (passedTo elses s i 0)
-passed-right elses {s} {i} o = let x = ended elses o in rw (x .passed) (x .right)
+passed-right elses {s} {i} o = levels-end s .past elses i o
 
 -- ---- a string whose form is wrong
 

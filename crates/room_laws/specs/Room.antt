@@ -26,7 +26,7 @@ abbrev pub Byte : ℕ → Type 0
 Byte c = c < 256
 
 -- an item of s prints at most 25 times its own bytes, whatever machine takes it: a width of at most 99 is spelled by
--- two bytes, behind `%` and before a letter
+-- two bytes, behind `%` and before a letter. `item-bounded` of proofs/Items.antt says that this is so
 abbrev pub ItemBounded : List ℕ → Type 0
 ItemBounded s = (i : ℕ) (m : Machine) (a b : Value) → i < length s → Value32 b
     → length (printedBy (effect (itemAt s i .item) m a b)) ≤ roomFor (itemAt s i .next - i)

@@ -44,8 +44,8 @@ fn describe(words: Words) -> Status {
         b"expand [-v] [-e EDITION] FILE CAPABILITY [NUMBER]..",
         b"Expands a string capability of a compiled file with up to nine numbers, 0 for those not given, and\n\
             writes the bytes. With -v they are shown as `ti show` shows them, and then the steps and the bytes,\n\
-            each with the most that the string's length allows. The file is read in the second edition, or the\n\
-            one behind -e: 1, 2 or its three counts, as 21,8,138.\n",
+            each with a bound by the string's length. The file is read in the second edition, or the one\n\
+            behind -e: 1, 2 or its three counts, as 21,8,138.\n",
     )
 }
 

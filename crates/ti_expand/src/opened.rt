@@ -1,4 +1,4 @@
-// A string of a file that is opened, expanded.
+// A string of a file that is opened, expanded; its length.
 ghost use mathlib.Core.Path.{_≡_};
 ghost use lib.ListN.{length};
 ghost use Rattle.entry.specs.Asking.{opening};
@@ -42,13 +42,16 @@ pub fn expand_opened(
     }
 }
 
-// The length of the string at a place; for one that is too long to be expanded the most, and 0 where there is none.
+// The most bytes of a string that is expanded.
+const STRING_MOST: u16 = 1000;
+
+// The length of the string at a place, at most STRING_MOST; 0 where there is none.
 pub fn string_length(file: &[u8], edition: Edition, opened: Opened, place: Place) -> u16
     requires { ⌜ saysOpened opened ≡ opening edition (now file) ⌝ }
 {
     match opened_file::string_if_opened(file, edition, opened, place) {
-        StringState::Present(p) => if 1000 < p.length {
-            1000
+        StringState::Present(p) => if (STRING_MOST as usize) < p.length {
+            STRING_MOST
         } else {
             p.length as u16
         },
