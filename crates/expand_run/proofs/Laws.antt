@@ -91,10 +91,6 @@ record Gone (e : Effect) (m : Machine) (w w′ : ℕ) : Type 0 where
   pub goes : performed e m ≡ goesOn (machineAfter e m) (printedBy e)
   pub counts : w′ ≡ w + length (printedBy e)
 
-abbrev IsGo : Step → Type 0
-IsGo (Go n) = Unit {0}
-IsGo (Push v) = ⊥
-
 straight-gone : (e : Effect) (m : Machine) (w w′ : ℕ) → Straight e → stepOf e w ≡ Go w′ → Gone e m w w′
 unfolding performed stepOf machineAfter
 straight-gone (prints bytes) m w w′ h g = let l : w′ ≡ w + length bytes = cc in record { goes = refl; counts = l }

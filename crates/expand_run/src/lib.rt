@@ -1,7 +1,7 @@
 // The run of a parameterized string whose form is right (document 01: Expansion). Proved: `run` comes to what `run` of
 // expansion/specs gives, in at most as many steps as the string has bytes, with at most 25 times as many bytes of
-// output. Assumed: nothing. The nine arguments come by value, and stand beside the stack: `%p` and `%i` are steps of the
-// run itself, and an item's own function sees values only.
+// output. Assumed: nothing. The nine arguments come by value, and stand beside the stack: `%p` and `%i` are steps of
+// the run itself, and an item's own function sees values only.
 ghost use mathlib.Core.Path.{_≡_};
 ghost use Prim.Native.Nat.{_≤_};
 ghost use lib.ListN.{length};
