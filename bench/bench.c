@@ -2,14 +2,15 @@
  *
  *     bench COLUMN ROW COUNT FILE.. [ARGUMENT..]
  *
- * COLUMN is ours, ncurses or unibilium; ROW is expand, open, list, compile (the text's first
- * description in the second edition; compile1 in the first, compile-named by its first name,
- * compile-all of every text in the file), merge (merge512 in an edition of 512 strings) or write. The
- * other rows are of the first edition. COUNT is how often the row is run; with
- * COUNT 0 the program prints nanoseconds of processor time per run, the least of several tries. Buffers
- * and variables are not cleared between runs.
+ * COLUMN is ours, ncurses or unibilium; ROW is expand (with numbers), expand-texts (an ARGUMENT that
+ * begins with = is a text, which stands behind it), open, list, compile (the text's first description
+ * in the second edition; compile1 in the first, compile-named by its first name, compile-all of every
+ * text in the file), merge (merge512 in an edition of 512 strings) or write. The other rows are of the
+ * first edition. COUNT is how often the row is run; with COUNT 0 the program prints nanoseconds of
+ * processor time per run, the least of several tries. Buffers and variables are not cleared between
+ * runs.
  *
- *     bench compare expand 0 FILE [ARGUMENT..]
+ *     bench compare expand-texts 0 FILE [ARGUMENT..]
  *
  * prints for how many strings of the file the peers' output is not ours. */
 #define _POSIX_C_SOURCE 200809L
@@ -43,6 +44,8 @@ static size_t lengths[2];
 static const char *strings[MOST];
 static size_t string_lengths[MOST], string_count;
 static int32_t arguments[9], lasting[26];
+static uint8_t kinds[9], texts[LARGEST]; /* each text has a NUL behind it for the peers */
+static size_t text_starts[9], text_lengths[9], texts_length;
 static uint8_t output[LARGEST];
 static volatile uint64_t kept;
 
@@ -74,11 +77,18 @@ static void expand_ours(void) {
                                output, sizeof output, 0);
 }
 
+static void expand_texts_ours(void) {
+    for (size_t i = 0; i < string_count; i++)
+        kept = terminfo_expand_texts((const uint8_t *)strings[i], string_lengths[i], kinds, arguments,
+                                     text_starts, text_lengths, texts, texts_length, lasting, output,
+                                     sizeof output, 0);
+}
+
 static void open_ours(void) {
-    static const uint8_t kinds[8] = {TERMINFO_BOOLEAN, TERMINFO_NUMBER, TERMINFO_STRING};
+    static const uint8_t asked[8] = {TERMINFO_BOOLEAN, TERMINFO_NUMBER, TERMINFO_STRING};
     static const size_t places[8] = {AM_PLACE, COLS_PLACE, CUP_PLACE};
     uint64_t answers[8];
-    if (terminfo_ask(files[0], lengths[0], BOOLEANS, NUMBERS, STRINGS, kinds, places, answers))
+    if (terminfo_ask(files[0], lengths[0], BOOLEANS, NUMBERS, STRINGS, asked, places, answers))
         fail("the entry is refused");
     kept = terminfo_kind(answers[0]) + terminfo_value(answers[1]) + terminfo_start(answers[2]);
 }
@@ -136,16 +146,16 @@ static void merge_512_strings(void) { merge_in(512); }
 
 /* Writes half as many strings as the file has bytes, each of them the whole file. */
 static void write_shared(void) {
-    static uint8_t kinds[MOST];
+    static uint8_t present[MOST];
     static size_t starts[MOST], whole[MOST];
     static const uint32_t values[1];
     size_t count = lengths[0] / 2;
     for (size_t i = 0; i < count; i++) {
-        kinds[i] = TERMINFO_PRESENT;
+        present[i] = TERMINFO_PRESENT;
         whole[i] = lengths[0];
     }
-    kept = terminfo_write(0, 0, count, (const uint8_t *)"a", 1, kinds, 0, kinds, 0, values, 0, kinds,
-                          count, starts, count, whole, count, files[0], lengths[0], output,
+    kept = terminfo_write(0, 0, count, (const uint8_t *)"a", 1, present, 0, present, 0, values, 0,
+                          present, count, starts, count, whole, count, files[0], lengths[0], output,
                           sizeof output);
 }
 
@@ -155,6 +165,17 @@ static void expand_ncurses(void) {
     for (size_t i = 0; i < string_count; i++)
         kept = (uintptr_t)tiparm(strings[i], (long)a[0], (long)a[1], (long)a[2], (long)a[3],
                                  (long)a[4], (long)a[5], (long)a[6], (long)a[7], (long)a[8]);
+}
+
+static long words[9]; /* a number, or the address of a text: x86-64 passes both alike */
+
+static const char *with_words(const char *string) {
+    const long *w = words;
+    return tiparm(string, w[0], w[1], w[2], w[3], w[4], w[5], w[6], w[7], w[8]);
+}
+
+static void expand_texts_ncurses(void) {
+    for (size_t i = 0; i < string_count; i++) kept = (uintptr_t)with_words(strings[i]);
 }
 
 static void open_ncurses(void) {
@@ -224,15 +245,13 @@ static void compare(void) {
     size_t ncurses = 0, unibilium = 0;
     for (size_t i = 0; i < string_count; i++) {
         static uint8_t ours[LARGEST];
-        uint64_t answer = terminfo_expand((const uint8_t *)strings[i], string_lengths[i], arguments,
-                                          lasting, ours, sizeof ours - 1, 0);
+        uint64_t answer = terminfo_expand_texts((const uint8_t *)strings[i], string_lengths[i], kinds,
+                                                arguments, text_starts, text_lengths, texts,
+                                                texts_length, lasting, ours, sizeof ours - 1, 0);
         if (terminfo_refusal(answer)) fail("a string is refused");
         ours[terminfo_length(answer)] = 0;
 #ifdef WITH_NCURSES
-        const int32_t *a = arguments;
-        ncurses += strcmp((const char *)ours,
-                          tiparm(strings[i], (long)a[0], (long)a[1], (long)a[2], (long)a[3],
-                                 (long)a[4], (long)a[5], (long)a[6], (long)a[7], (long)a[8])) != 0;
+        ncurses += strcmp((const char *)ours, with_words(strings[i])) != 0;
 #endif
 #ifdef WITH_UNIBILIUM
         unibi_var_t copy[9];
@@ -258,6 +277,7 @@ typedef struct {
 
 static const Row rows[] = {
     {"ours", "expand", expand_ours},
+    {"ours", "expand-texts", expand_texts_ours},
     {"ours", "open", open_ours},
     {"ours", "list", list_ours},
     {"ours", "compile", compile_in_second},
@@ -270,11 +290,13 @@ static const Row rows[] = {
     {"ours", "write", write_shared},
 #ifdef WITH_NCURSES
     {"ncurses", "expand", expand_ncurses},
+    {"ncurses", "expand-texts", expand_texts_ncurses},
     {"ncurses", "open", open_ncurses},
     {"ncurses", "list", list_ncurses},
 #endif
 #ifdef WITH_UNIBILIUM
     {"unibilium", "expand", expand_unibilium},
+    {"unibilium", "expand-texts", expand_unibilium},
     {"unibilium", "open", open_unibilium},
     {"unibilium", "list", list_unibilium},
 #endif
@@ -304,16 +326,42 @@ static double nanoseconds(void (*run)(void)) {
     return 1e9 * least;
 }
 
+/* Takes an argument of the strings: a number, or a text behind =. */
+static void take_argument(int i, const char *word) {
+    if (*word != '=') {
+        arguments[i] = atoi(word);
+    } else {
+        kinds[i] = 1;
+        text_starts[i] = texts_length;
+        text_lengths[i] = strlen(word + 1);
+        if (text_lengths[i] + 1 > sizeof texts - texts_length) fail("long texts");
+        memcpy(texts + texts_length, word + 1, text_lengths[i] + 1);
+        texts_length += text_lengths[i] + 1;
+    }
+}
+
+/* Puts the arguments as the peers take them. */
+static void take_for_peers(void) {
+    for (int i = 0; i < 9; i++) {
+        char *text = (char *)texts + text_starts[i];
+#ifdef WITH_NCURSES
+        words[i] = kinds[i] ? (long)text : arguments[i];
+#endif
+#ifdef WITH_UNIBILIUM
+        variables[i] = kinds[i] ? unibi_var_from_str(text) : unibi_var_from_num(arguments[i]);
+#endif
+        (void)text;
+    }
+}
+
 int main(int argc, char **argv) {
     if (argc < 5) fail("COLUMN ROW COUNT FILE.. [ARGUMENT..]");
     int merging = strncmp(argv[2], "merge", 5) == 0;
     load(0, argv[4]);
     load(1, argv[merging && argc > 5 ? 5 : 4]);
-    if (strcmp(argv[2], "expand") == 0 || strcmp(argv[2], "compile-all") == 0) split();
-    for (int i = 0; i < 9 && 5 + i < argc && !merging; i++) arguments[i] = atoi(argv[5 + i]);
-#ifdef WITH_UNIBILIUM
-    for (int i = 0; i < 9; i++) variables[i] = unibi_var_from_num(arguments[i]);
-#endif
+    if (strncmp(argv[2], "expand", 6) == 0 || strcmp(argv[2], "compile-all") == 0) split();
+    for (int i = 0; i < 9 && 5 + i < argc && !merging; i++) take_argument(i, argv[5 + i]);
+    take_for_peers();
     if (strcmp(argv[1], "compare") == 0) {
         compare();
         return 0;

@@ -14,12 +14,16 @@ sys.path.insert(0, str(Path(__file__).resolve().parent.parent / "tests"))
 import expand_model  # noqa: E402
 import model  # noqa: E402
 import text_model  # noqa: E402
+import text_strings  # noqa: E402
 import use_texts  # noqa: E402
 
 ENVIRONMENT = {"PATH": os.environ["PATH"], "LC_ALL": "C"}
 MERGED_SIZE = 1100
 MIX_ARGUMENTS = [1, 2, 3, 4, 5, 6, 7, 8, 9]
+KEY_TEXT = b"make all\r"
+KEY_ARGUMENTS = [1, expand_model.Text(0, len(KEY_TEXT)), 0, 0, 0, 0, 0, 0, 0]
 MAGIC_OF_WIDE_NUMBERS = 0o1036
+PFKEY = b"\x1b&f%p1%dk%p2%l%dL%p2%s"
 SETAF = (b"\x1b[%?%p1%{8}%<%t3%p1%d%e%p1%{16}%<%t9%p1%{8}%-%d%e38;5;%p1%d%;m")
 
 
@@ -51,10 +55,10 @@ def strings(file):
             yield place, file[table + offset:file.index(b"\0", table + offset)]
 
 
-def accepted(string):
-    """Whether document 01 expands a string."""
+def accepted(string, arguments):
+    """Whether a string is expanded with these arguments."""
     try:
-        expand_model.expand(string, MIX_ARGUMENTS, 26 * [0], 4096, 0)
+        expand_model.expand(string, arguments, 26 * [0], 4096, 0, KEY_TEXT)
     except model.Refusal:
         return False
     return True
@@ -177,7 +181,8 @@ def main(folder):
     mix, sized, texts, xterm = set(), [], [], None
     for directory, name in entries():
         file = (Path(directory) / name[0] / name).read_bytes()
-        mix.update(string for _, string in strings(file) if b"%" in string and accepted(string))
+        mix.update(string for _, string in strings(file)
+                   if b"%" in string and accepted(string, MIX_ARGUMENTS))
         printed = run("infocmp", "-1", "-A", directory, name)
         first, second = (cut(printed, edition)
                          for edition in (model.FIRST_EDITION, model.SECOND_EDITION))
@@ -201,7 +206,13 @@ def main(folder):
     put_strings(folder, "setaf", [SETAF])
     put_strings(folder, "decimal", [b"%p1%d"])
     put_strings(folder, "mix", sorted(mix))
+    put_strings(folder, "pfkey", [PFKEY])
+    text_mix = sorted({string for _, _, string in text_strings.STRINGS
+                       if accepted(string, KEY_ARGUMENTS)})
+    put_strings(folder, "text-mix", text_mix)
     notes = [f"- mix: {len(mix)} distinct strings of {len(sized)} installed entries;",
+             f"- pfkey is that of hpterm; mix of strings that print a text: {len(text_mix)} of "
+             "Debian's ncurses-term;",
              f"- open: xterm without extended section, in the first edition "
              f"({len(first_edition):,} bytes) and as tic compiles it ({len(file):,} bytes), "
              "read in the first edition;",

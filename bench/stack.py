@@ -1,11 +1,11 @@
 """Prints how much stack each public call uses at most, and compares it with the header.
 
-Counted in the archive's disassembly (x86-64): of each function the return address, every push,
+Counted in the disassembly of the archives (x86-64): of each function the return address, every push,
 every enlargement of the frame and what it uses below the stack pointer, added up along the longest
 chain of calls, and the arguments that the caller puts there. No function calls itself. The C
 library's memcpy, memset and strlen count with their return address only.
 
-    stack.py ARCHIVE HEADER
+    stack.py HEADER ARCHIVE..
 
 It fails where the header says too little.
 """
@@ -100,8 +100,10 @@ def stated(header):
     return found
 
 
-def main(archive, header):
-    found = depths(*functions(disassembly(archive)))
+def main(header, *archives):
+    found = {}
+    for archive in archives:
+        found.update(depths(*functions(disassembly(archive))))
     with open(header, encoding="ascii") as file:
         said = stated(file.read())
     print("| Call | Stack, bytes | The header says at most |\n|---|---|---|")

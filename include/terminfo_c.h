@@ -14,7 +14,8 @@
  * state is not taken for an absent one.
  *
  *     1   the file is shorter than 12 bytes, longer than 4,096 or not as long as its header says,
- *         the text is longer than 16,384 bytes, or the string to be expanded longer than 1,000
+ *         the text is longer than 16,384 bytes, or the string to be expanded, or a text among its
+ *         arguments, longer than 1,000
  *     2   the file does not begin with the magic number 282
  *     3   a header short is above 32,767, the names size is outside 2 to 128, the edition is too
  *         large, or the writer is given fewer states than the edition counts
@@ -44,11 +45,14 @@
  *     15  an item finds too few values on the stack; bits 0 to 47 give the item's place
  *     16  an item finds no room on the stack of 20 values; bits 0 to 47 give the item's place
  *     17  the place is beyond the edition, the list or the buffer's length, there is no such kind
- *         of capability, or opening refuses the file
+ *         of capability, opening refuses the file, or a text among an expansion's arguments is not
+ *         in the bytes that were lent
  *     18  no description of the text has the name; for 18 to 20 bits 0 to 47 give the first byte of
  *         the use= field, 0 for the wanted name
  *     19  a chain of uses comes back to a description that is being worked on
  *     20  the ninth use of a chain
+ *     21  an item takes a value of the other kind from the stack: %s or %l a number, any other item
+ *         a text; bits 0 to 47 give the item's place
  *
  * 12, once the number for use=, is given no more.
  *
@@ -103,7 +107,8 @@ enum {
     TERMINFO_REFUSED_PLACE = 17,
     TERMINFO_REFUSED_NOT_FOUND = 18,
     TERMINFO_REFUSED_CIRCULAR = 19,
-    TERMINFO_REFUSED_NINTH_USE = 20
+    TERMINFO_REFUSED_NINTH_USE = 20,
+    TERMINFO_REFUSED_KIND = 21
 };
 
 /* The number of the refusal in an answer; 0 for success. */
@@ -119,7 +124,7 @@ static inline unsigned terminfo_kind(uint64_t answer) { return (unsigned)(answer
  * terminfo_compile or terminfo_compile_first (success, or refusal 8), the count in that of
  * terminfo_list (refusal 8), the field's first byte in that of terminfo_compile or
  * terminfo_compile_first (refusals 10, 11, 13 and 18 to 20), or what a refusal of terminfo_expand
- * gives: the output's length (8) or an item's place (14, 15, 16). */
+ * or terminfo_expand_texts gives: the output's length (8) or an item's place (14, 15, 16, 21). */
 static inline uint64_t terminfo_value(uint64_t answer) { return answer & 0xFFFFFFFFFFFFu; }
 
 /* The position in the file of the first offending byte or slot, in the answer of terminfo_open,
@@ -140,10 +145,10 @@ static inline unsigned terminfo_which(uint64_t answer) { return (unsigned)(answe
 static inline size_t terminfo_start(uint64_t answer) { return (size_t)(answer >> 24) & 0xFFFFFFu; }
 
 /* How many bytes the part of the file has that terminfo_names, terminfo_string or terminfo_state
- * gives, or the output of terminfo_expand. */
+ * gives, or the output of terminfo_expand or terminfo_expand_texts. */
 static inline size_t terminfo_length(uint64_t answer) { return (size_t)answer & 0xFFFFFFu; }
 
-/* How many items terminfo_expand took. */
+/* How many items terminfo_expand or terminfo_expand_texts took. */
 static inline size_t terminfo_steps(uint64_t answer) { return (size_t)(answer >> 24) & 0xFFFFFFu; }
 
 /* Opens a file: checks all of it and tells where its tables are.
@@ -391,9 +396,11 @@ uint64_t terminfo_capability(uint8_t kind, size_t place);
  * constant length it can be the size of an array. */
 #define TERMINFO_EXPAND_ROOM(length) ((size_t)25 * (length))
 
-/* Expands a parameterized string and writes the output into the buffer from a place on.
+/* Expands a parameterized string with nine numbers and writes the output into the buffer from a
+ * place on; terminfo_expand_texts does so where an argument is a text.
  *
- * string, string_length  the string, at most 1,000 bytes. A delay such as $<5> in it is text.
+ * string, string_length  the string, at most 1,000 bytes. A delay such as $<5> in it is sent as it
+ *                        stands.
  * arguments              the nine arguments %p1 to %p9; those that the string does not use may have
  *                        any value. %i changes them within the call only.
  * lasting                the variables A to Z, lasting[0] is A; on success changed in place. The
@@ -403,41 +410,100 @@ uint64_t terminfo_capability(uint8_t kind, size_t place);
  *
  * The items are bytes other than NUL and percent sign, which stand for themselves, and
  *     %%                        a percent sign;
- *     %p1 to %p9                pushes an argument;
+ *     %p1 to %p9                pushes an argument, a number or a text;
  *     %d %o %x %X               pops a value and prints it, octal and hex mod 2^32, with a width of
  *                               1 to 99, and a 0 before the width to fill with zeros, which stand
  *                               after the sign: %3d, %02x;
  *     %c                        pops a value and prints it mod 256 as one byte, 0 as 128;
+ *     %s                        pops a text and prints its bytes;
+ *     %l                        pops a text and pushes its length;
  *     %'b' %{digits}            pushes a byte other than NUL, or a number of at most 2,147,483,647;
  *     %Pa %ga, %PA %gA          pops into a variable, pushes a variable;
  *     %+ %- %* %/ %m            pop two values and push the result in 32 bits, the value popped
  *                               last on the left; a zero divisor gives 0;
  *     %& %| %^ %~               the same for the bits of two values, or of one;
  *     %= %> %< %A %O %!         the same for comparisons, and, or, not; they give 1 or 0;
- *     %i                        adds 1 to the first two arguments;
+ *     %i                        adds 1 to those of the first two arguments that are numbers;
  *     %? .. %t .. %e .. %;      a conditional: %t pops a value and on 0 goes past the next %e of
  *                               this level, or past its %; if there is none; a reached %e goes
  *                               past the %;. After %e may come another condition with its %t. At
  *                               most 16 stand within each other.
  *
+ * Every value on the stack is a number here, so that %s and %l are refused where they are reached: 15
+ * on an empty stack, else 21. In a part that is passed over they are not.
+ *
  * Success gives the steps, which are the items taken, times 2^24 plus the output's length
  * (terminfo_steps, terminfo_length). The output holds no NUL, whatever the string, the arguments and
- * the variables (the theorem expanding-no-nul of output_laws).
+ * the variables (the theorem numbers-no-nul of output_laws).
  *
  * The steps are at most string_length, and the output has at most 25 times string_length bytes,
  * also where 8 gives its length. So 8 is not given where buffer_length is at least
- * at + TERMINFO_EXPAND_ROOM(string_length) (the theorem bounded of room_laws).
+ * at + TERMINFO_EXPAND_ROOM(string_length) (the theorem numbers-bounded of room_laws).
  *
- * While the call runs it writes into the buffer from at on; where it is refused, the bytes are put
- * back before it returns.
+ * While the call runs it writes into the buffer from at on and into lasting; where it is refused, both
+ * are put back before it returns.
  *
  * Refusals, the first that applies: 17 (at is above buffer_length), 1 (above 1,000 bytes), 14 (gives
- * the place of the first wrong item, or the string's length for an open conditional), 15 and 16 (give
- * the place of the item at which the expansion stops), 8 (gives the output's length: terminfo_value).
+ * the place of the first wrong item, or the string's length for an open conditional), 15, 21 and 16
+ * (give the place of the item at which the expansion stops; of one item in this order), 8 (gives the
+ * output's length: terminfo_value).
  *
- * Uses at most 712 bytes of stack. */
+ * Uses at most 1,208 bytes of stack. */
 uint64_t terminfo_expand(const uint8_t *string, size_t string_length, const int32_t arguments[9],
                          int32_t lasting[26], uint8_t *buffer, size_t buffer_length, size_t at);
+
+/* How many bytes the output of terminfo_expand_texts has at most, for a string of this length that
+ * has so many %s items, those that are passed over included. With constants it can be the size of an
+ * array. */
+#define TERMINFO_EXPAND_TEXTS_ROOM(length, texts) ((size_t)25 * (length) + (size_t)1000 * (texts))
+
+/* More bytes the output never has, whatever the string: TERMINFO_EXPAND_TEXTS_ROOM(1000, 500). */
+#define TERMINFO_EXPAND_MOST ((size_t)525000)
+
+/* Expands a parameterized string with nine arguments, each a number or a text, and writes the output
+ * into the buffer from a place on. The items are those of terminfo_expand. This call stands in a
+ * library of its own, libterminfo_texts_c.a, all others in libterminfo_c.a.
+ *
+ * string, string_length  the string, at most 1,000 bytes.
+ * kinds                  the kind of each argument: 0 a number, any other a text.
+ * numbers                the value of each argument that is a number.
+ * starts, lengths        where in texts each argument that is a text starts, and how many bytes it
+ *                        has: at most 1,000.
+ * texts, texts_length    the bytes that hold the texts, which may share them; any byte, NUL too.
+ * lasting                the variables A to Z, as for terminfo_expand; they never hold texts.
+ * buffer, buffer_length  takes the output; its bytes before the place and past the output stay.
+ * at                     the place of the output's first byte, at most buffer_length.
+ *
+ * numbers[i] is not looked at where argument i + 1 is a text, starts[i] and lengths[i] are not where it
+ * is a number. Each text is judged, whether the string uses it or not.
+ *
+ * Success gives the steps times 2^24 plus the output's length, as terminfo_expand does (terminfo_steps,
+ * terminfo_length). Where no text among the arguments holds a NUL, the output holds none (the theorem
+ * expanding-no-nul of output_laws). Where all arguments are numbers, the call does what terminfo_expand
+ * does with them.
+ *
+ * The steps are at most string_length, and the output has at most 25 times string_length bytes plus,
+ * for each %s item of the string, as many as the longest text has: at most 1,000. So 8 is not given
+ * where buffer_length is at least at + TERMINFO_EXPAND_TEXTS_ROOM(string_length, count) with the count
+ * of %s items, or at + TERMINFO_EXPAND_MOST (the theorem bounded of room_laws, and room-most of
+ * expansion_laws).
+ *
+ * While the call runs it writes into the buffer from at on and into lasting; where it is refused, both
+ * are put back before it returns.
+ *
+ * Refusals, the first that applies: 17 (at is above buffer_length), 17 (a text is not in texts: its
+ * start plus its length is above texts_length; an empty one may start at the end), 1 (the string is
+ * above 1,000 bytes), 1 (a text is above 1,000 bytes), 14 (gives the place of the first wrong item, or
+ * the string's length for an open conditional), 15, 21 and 16 (give the place of the item at which the
+ * expansion stops; of one item in this order: too few values, a value of the other kind, no room on the
+ * stack), 8 (gives the output's length: terminfo_value).
+ *
+ * Uses at most 1,448 bytes of stack. */
+uint64_t terminfo_expand_texts(const uint8_t *string, size_t string_length, const uint8_t kinds[9],
+                               const int32_t numbers[9], const size_t starts[9],
+                               const size_t lengths[9], const uint8_t *texts, size_t texts_length,
+                               int32_t lasting[26], uint8_t *buffer, size_t buffer_length,
+                               size_t at);
 
 /* Finds the capability that a name means in an edition.
  *

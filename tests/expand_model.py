@@ -1,7 +1,7 @@
-"""Expansion as document 01 defines it: items, conditionals, the stack, variables and output.
+"""Expansion as documents 01 and 02 define it: items, conditionals, the stack, variables and output.
 
-Written from document 01 alone, independently of the library; the tests compare the two.
-A refused call raises Refusal.
+Written from the documents alone, independently of the library; the tests compare the two. A value
+is a number, an int, or the bytes of a text. A refused call raises Refusal.
 """
 
 import re
@@ -13,14 +13,17 @@ from model import LARGEST_STRING, Refusal
 STACK_SIZE = 20
 DEEPEST = 16  # open conditionals
 LARGEST_CONSTANT = 2**31 - 1
+LARGEST_TEXT = 1000  # document 02, 2026-07, as all that concerns texts
 
 # An item; the last group that matches names its kind.
 ITEM = re.compile(rb"""
-      (?P<text> [^%\0] )
+      (?P<plain> [^%\0] )
     | % (?: (?P<percent> % )
           | p (?P<argument> [1-9] )
           | (?P<zero> 0 (?=[1-9]) )? (?P<width> [1-9][0-9]? )? (?P<number> [doxX] )
           | (?P<character> c )
+          | (?P<text> s )
+          | (?P<length> l )
           | ' (?P<byte> [^\0] ) '
           | \{ (?P<constant> [0-9]+ ) \}
           | P (?P<put> [A-Za-z] )
@@ -34,6 +37,12 @@ ITEM = re.compile(rb"""
 
 # The marks of a conditional that may come next after each of its marks.
 NEXT_MARKS = {b"?": b"t", b"t": b"e;", b"e": b"t;"}
+
+
+class Text(NamedTuple):
+    """An argument that is a text: a part of what was lent."""
+    start: int
+    length: int
 
 
 class Expansion(NamedTuple):
@@ -154,18 +163,22 @@ class Machine:
             steps += 1
         return steps
 
-    def pop(self):
-        if not self.stack:
+    def pop(self, count=1, kind=int):
+        """Takes so many values, all of this kind, from the stack; the top comes first."""
+        if len(self.stack) < count:
             raise Refusal(15, self.place)
-        return self.stack.pop()
+        values = [self.stack.pop() for _ in range(count)]
+        if not all(isinstance(value, kind) for value in values):
+            raise Refusal(21, self.place)
+        return values
 
     def push(self, value):
         if len(self.stack) == STACK_SIZE:
             raise Refusal(16, self.place)
-        self.stack.append(signed(value))
+        self.stack.append(value if isinstance(value, bytes) else signed(value))
 
-    def text(self, item):
-        self.output += item["text"]
+    def plain(self, item):
+        self.output += item["plain"]
 
     def percent(self, _):
         self.output += b"%"
@@ -175,10 +188,20 @@ class Machine:
 
     def number(self, item):
         conversion = item["number"].decode("ascii")
-        self.output += printed(self.pop(), conversion, int(item["width"] or 0), item["zero"])
+        value, = self.pop()
+        self.output += printed(value, conversion, int(item["width"] or 0), item["zero"])
 
     def character(self, _):
-        self.output.append(self.pop() % 256 or 128)  # 128: document 02, 2026-04
+        value, = self.pop()
+        self.output.append(value % 256 or 128)  # 128: document 02, 2026-04
+
+    def text(self, _):
+        content, = self.pop(kind=bytes)
+        self.output += content
+
+    def length(self, _):
+        content, = self.pop(kind=bytes)
+        self.push(len(content))
 
     def byte(self, item):
         self.push(item["byte"][0])
@@ -187,38 +210,51 @@ class Machine:
         self.push(int(item["constant"]))
 
     def put(self, item):
-        self.variables[item["put"][0]] = self.pop()
+        self.variables[item["put"][0]], = self.pop()
 
     def get(self, item):
         self.push(self.variables[item["get"][0]])
 
     def binary(self, item):
-        right = self.pop()
-        left = self.pop()
+        right, left = self.pop(2)
         self.push(BINARY[item["binary"]](left, right))
 
     def unary(self, item):
-        self.push(UNARY[item["unary"]](self.pop()))
+        value, = self.pop()
+        self.push(UNARY[item["unary"]](value))
 
     def increment(self, _):
         for index in 0, 1:
-            self.arguments[index] = signed(self.arguments[index] + 1)
+            if isinstance(self.arguments[index], int):
+                self.arguments[index] = signed(self.arguments[index] + 1)
 
     def mark(self, item):
         """Whether to go to the mark's target."""
         if item["mark"] == b"t":
-            return self.pop() == 0
+            value, = self.pop()
+            return value == 0
         return item["mark"] == b"e"
 
 
-def expand(string, arguments, lasting, room, at):
-    """Expands a string for a buffer of `room` bytes from place `at` on."""
-    if at > room:
+def texts_of(string):
+    """How many %s items an accepted string has, those that are passed over too."""
+    return sum(item.lastgroup == "text" for item in parse(string)[0])
+
+
+def expand(string, arguments, lasting, room, at, lent=b""):
+    """Expands a string for a buffer of `room` bytes from place `at` on.
+
+    An argument is a number or a Text, a part of what is lent.
+    """
+    texts = [argument for argument in arguments if isinstance(argument, Text)]
+    if at > room or any(text.start + text.length > len(lent) for text in texts):
         raise Refusal(17)
-    if len(string) > LARGEST_STRING:
+    if len(string) > LARGEST_STRING or any(text.length > LARGEST_TEXT for text in texts):
         raise Refusal(1)
     items, targets = parse(string)
-    machine = Machine(arguments, lasting)
+    values = [lent[argument.start:][:argument.length] if isinstance(argument, Text) else argument
+              for argument in arguments]
+    machine = Machine(values, lasting)
     steps = machine.run(items, targets)
     if len(machine.output) > room - at:
         raise Refusal(8, len(machine.output))

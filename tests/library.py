@@ -6,6 +6,8 @@ Beside each stands the answer that the model gives, in the same 64 bits.
 """
 
 import ctypes
+import mmap
+import os
 import struct
 from array import array
 from functools import cached_property
@@ -71,7 +73,7 @@ CALLS = load()
 STATE_CALLS = (CALLS["boolean"], CALLS["number"], CALLS["string"])
 
 # What bytes hold that are not lent, or lent and not yet written; any 256 of them hold every value.
-PATTERN = bytes((37 * i + 11) % 256 for i in range(1 << 16))
+PATTERN = bytes((37 * i + 11) % 256 for i in range(256)) * (1 << 12)
 GUARD = 256
 
 
@@ -116,6 +118,37 @@ class Lent:
         rest = GUARD + count * self.width
         return (self.bytes.startswith(self.whole[:GUARD])
                 and self.bytes.startswith(self.whole[rest:], rest))
+
+
+class LentAtEnd:
+    """Elements lent to the library to read, directly before memory that can't be read.
+
+    Guard bytes stand before them.
+    """
+
+    def __init__(self, type_code="B", capacity=1 << 13):
+        self.type_code = type_code
+        size = -(-(GUARD + capacity * array(type_code).itemsize) // mmap.PAGESIZE) * mmap.PAGESIZE
+        self.pages = mmap.mmap(-1, size + mmap.PAGESIZE)
+        self.end = size
+        self.end_address = ctypes.addressof(ctypes.c_char.from_buffer(self.pages)) + size
+        no_access = 0
+        if ctypes.CDLL(None, use_errno=True).mprotect(
+                ctypes.c_void_p(self.end_address), SIZE(mmap.PAGESIZE), no_access):
+            raise OSError(ctypes.get_errno(), os.strerror(ctypes.get_errno()))
+        self.put(b"")
+
+    def put(self, elements):
+        """Lends these elements."""
+        content = elements if self.type_code == "B" else array(self.type_code, elements).tobytes()
+        self.length = len(elements)
+        self.address = self.end_address - len(content)
+        self.whole = PATTERN[:GUARD] + content
+        self.pages[self.end - len(self.whole):self.end] = self.whole
+
+    def kept(self):
+        """Whether the elements and the guard bytes are as they were lent."""
+        return self.pages[self.end - len(self.whole):self.end] == self.whole
 
 
 class Changed(AssertionError):

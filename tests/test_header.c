@@ -222,6 +222,12 @@ static void expanding(void) {
     assert(terminfo_refusal(answer) == 8 && terminfo_value(answer) == 4);
     answer = expand("%?", lasting, buffer, 16);
     assert(terminfo_refusal(answer) == 14 && terminfo_value(answer) == 2);
+    answer = expand("a%p1%s", lasting, buffer, 0);
+    assert(terminfo_refusal(answer) == TERMINFO_REFUSED_KIND && terminfo_value(answer) == 4);
+    answer = expand("a%l", lasting, buffer, 0);
+    assert(terminfo_refusal(answer) == TERMINFO_REFUSED_STACK_EMPTY && terminfo_value(answer) == 1);
+    answer = expand("%?%p1%t%s%l%;", lasting, buffer, 16);
+    assert(terminfo_refusal(answer) == 0 && terminfo_steps(answer) == 3);
     assert(terminfo_refusal(expand("", lasting, buffer, 17)) == 17);
     assert(!memcmp(buffer, "-05[1;1H........", sizeof buffer) && lasting[1] == -5);
 }
@@ -255,6 +261,202 @@ static void expanding_room(void) {
     answer = terminfo_expand(string, LENGTH - 7, arguments, lasting, buffer, sizeof buffer,
                              TERMINFO_EXPAND_ROOM(7));
     assert(terminfo_refusal(answer) == 0 && terminfo_length(answer) == PRINTED - 99);
+}
+
+/* Nine arguments of an expansion, numbers and texts, and the bytes that hold the texts. */
+typedef struct {
+    uint8_t kinds[9];
+    int32_t numbers[9];
+    size_t starts[9], lengths[9];
+    const uint8_t *texts;
+    size_t texts_length;
+} Arguments;
+
+/* Numbers, all 0. What belongs to a text must not be looked at. */
+static void no_texts(Arguments *a, const char *texts) {
+    for (int i = 0; i < 9; i++) {
+        a->kinds[i] = 0;
+        a->numbers[i] = 0;
+        a->starts[i] = a->lengths[i] = SIZE_MAX;
+    }
+    a->texts = (const uint8_t *)texts;
+    a->texts_length = strlen(texts);
+}
+
+/* Makes an argument a text. What belongs to a number must not be looked at. */
+static void give_text(Arguments *a, int i, uint8_t kind, size_t start, size_t length) {
+    a->kinds[i] = kind;
+    a->numbers[i] = 77;
+    a->starts[i] = start;
+    a->lengths[i] = length;
+}
+
+static uint64_t expand_texts(const char *string, const Arguments *a, int32_t lasting[26],
+                             uint8_t *buffer, size_t room, size_t at) {
+    return terminfo_expand_texts((const uint8_t *)string, strlen(string), a->kinds, a->numbers,
+                                 a->starts, a->lengths, a->texts, a->texts_length, lasting, buffer,
+                                 room, at);
+}
+
+/* Expands strings with arguments of both kinds: a function key's, texts at the end of what is lent,
+ * empty ones, the same bytes twice, a NUL; numbers as terminfo_expand does. */
+static void expanding_texts(void) {
+    int32_t lasting[26] = {0};
+    uint8_t buffer[32], again[32];
+    uint64_t answer;
+    Arguments a;
+
+    no_texts(&a, "label:ls -l\r");
+    a.numbers[0] = 4;
+    give_text(&a, 1, 1, 6, 6);
+    memset(buffer, '.', sizeof buffer);
+    answer = expand_texts("\033&f%p1%dk%p2%l%dL%p2%s", &a, lasting, buffer, sizeof buffer, 3);
+    assert(terminfo_refusal(answer) == 0);
+    assert(terminfo_steps(answer) == 12 && terminfo_length(answer) == 13);
+    assert(!memcmp(buffer, "...\033&f4k6Lls -l\r................", sizeof buffer));
+
+    give_text(&a, 0, 255, 0, 5);
+    give_text(&a, 8, 2, 12, 0);
+    answer = expand_texts("%i%p1%p1%l%d%s%p9%l%d%p9%s%p3%d", &a, lasting, buffer, 8, 0);
+    assert(terminfo_refusal(answer) == 0);
+    assert(terminfo_steps(answer) == 13 && terminfo_length(answer) == 8);
+    assert(!memcmp(buffer, "5label00", 8));
+    answer = expand_texts("%p2%l%PB", &a, lasting, buffer, 0, 0);
+    assert(terminfo_steps(answer) == 3 && lasting[1] == 6);
+
+    a.texts = (const uint8_t *)"a\0b";
+    a.texts_length = 3;
+    give_text(&a, 0, 1, 0, 3);
+    give_text(&a, 1, 1, 2, 1);
+    give_text(&a, 8, 1, 3, 0);
+    answer = expand_texts("%p1%s%p2%s", &a, lasting, buffer, sizeof buffer, 1);
+    assert(terminfo_length(answer) == 4 && !memcmp(buffer, "5a\0bbl00", 8));
+
+    no_texts(&a, "");
+    a.numbers[2] = -5;
+    lasting[1] = 0;
+    memset(again, '.', sizeof again);
+    memset(buffer, '.', sizeof buffer);
+    answer = terminfo_expand((const uint8_t *)"%i%p1%d%p3%03d%PB", 17, a.numbers, lasting, buffer,
+                             sizeof buffer, 1);
+    assert(terminfo_refusal(answer) == TERMINFO_REFUSED_STACK_EMPTY);
+    assert(expand_texts("%i%p1%d%p3%03d%PB", &a, lasting, again, sizeof again, 1) == answer);
+    answer = terminfo_expand((const uint8_t *)"%i%p1%d%p3%03d", 14, a.numbers, lasting, buffer,
+                             sizeof buffer, 1);
+    assert(terminfo_refusal(answer) == 0);
+    assert(expand_texts("%i%p1%d%p3%03d", &a, lasting, again, sizeof again, 1) == answer);
+    assert(!memcmp(buffer, ".1-05.", 6) && !memcmp(again, buffer, sizeof again));
+}
+
+/* Each refusal of an expansion with texts, in order, and what is lent as it was. */
+static void refused_texts(void) {
+    static const struct {
+        const char *string;
+        unsigned refusal;
+        size_t place;
+    } items[] = {
+        {"ab%", TERMINFO_REFUSED_MALFORMED_STRING, 2},
+        {"%p1%5s", TERMINFO_REFUSED_MALFORMED_STRING, 3},
+        {"%s", TERMINFO_REFUSED_STACK_EMPTY, 0},
+        {"%p1%+", TERMINFO_REFUSED_STACK_EMPTY, 3},
+        {"%p1%d", TERMINFO_REFUSED_KIND, 3},
+        {"%p1%c", TERMINFO_REFUSED_KIND, 3},
+        {"%p1%PB", TERMINFO_REFUSED_KIND, 3},
+        {"%p1%Pb", TERMINFO_REFUSED_KIND, 3},
+        {"%p1%!", TERMINFO_REFUSED_KIND, 3},
+        {"%?%p1%tx%;", TERMINFO_REFUSED_KIND, 5},
+        {"%p1%p2%+", TERMINFO_REFUSED_KIND, 6},
+        {"%p2%p1%+", TERMINFO_REFUSED_KIND, 6},
+        {"%p1%p1%=", TERMINFO_REFUSED_KIND, 6},
+        {"%p2%s", TERMINFO_REFUSED_KIND, 3},
+        {"%p2%l", TERMINFO_REFUSED_KIND, 3},
+        {"%p2%PB%p1%p1%p1%p1%p1%p1%p1%p1%p1%p1%p1%p1%p1%p1%p1%p1%p1%p1%p1%p1%p1",
+         TERMINFO_REFUSED_STACK_FULL, 66},
+    };
+    static const size_t outside[][2] = {{4, 0}, {3, 1}, {0, 4}, {2, 2}, {SIZE_MAX, 0},
+                                        {SIZE_MAX, 1}, {1, SIZE_MAX}, {SIZE_MAX, SIZE_MAX}};
+    static uint8_t long_string[1001], long_text[1001];
+    int32_t lasting[26] = {0};
+    uint8_t buffer[8];
+    uint64_t answer;
+    Arguments a;
+
+    memset(buffer, '.', sizeof buffer);
+    memset(long_string, '%', sizeof long_string);
+    no_texts(&a, "abc");
+    a.numbers[1] = 9;
+    give_text(&a, 0, 1, 0, 3);
+    for (size_t i = 0; i < sizeof items / sizeof items[0]; i++) {
+        answer = expand_texts(items[i].string, &a, lasting, buffer, 0, 0);
+        assert(terminfo_refusal(answer) == items[i].refusal);
+        assert(terminfo_value(answer) == items[i].place);
+    }
+    answer = expand_texts("%p2%PB%p1%sxy", &a, lasting, buffer, sizeof buffer, 4);
+    assert(terminfo_refusal(answer) == TERMINFO_REFUSED_ROOM && terminfo_value(answer) == 5);
+    for (int i = 2; i < 9; i++) /* whichever it is, and although the string does not use it */
+        for (size_t j = 0; j < sizeof outside / sizeof outside[0]; j++) {
+            give_text(&a, i, 1, outside[j][0], outside[j][1]);
+            answer = terminfo_expand_texts(long_string, 1001, a.kinds, a.numbers, a.starts, a.lengths,
+                                           a.texts, 3, lasting, buffer, 8, 8);
+            assert(answer == (uint64_t)TERMINFO_REFUSED_PLACE << 56);
+            a.kinds[i] = 0;
+        }
+    a.texts = long_text;
+    a.texts_length = sizeof long_text;
+    give_text(&a, 8, 1, 0, 1001);
+    assert(expand_texts("%", &a, lasting, buffer, 8, 9) == (uint64_t)TERMINFO_REFUSED_PLACE << 56);
+    assert(expand_texts("%", &a, lasting, buffer, 8, 8) == (uint64_t)TERMINFO_REFUSED_LENGTH << 56);
+    give_text(&a, 8, 1, 1, 1000);
+    answer = terminfo_expand_texts(long_string, 1001, a.kinds, a.numbers, a.starts, a.lengths, a.texts,
+                                   1001, lasting, buffer, 8, 8);
+    assert(answer == (uint64_t)TERMINFO_REFUSED_LENGTH << 56);
+    answer = expand_texts("%p9%l%d", &a, lasting, buffer, 8, 4);
+    assert(terminfo_length(answer) == 4 && !memcmp(buffer, "....1000", 8) && lasting[1] == 0);
+}
+
+/* The room that every output with texts fits into: 25 bytes for each of the string's and 1,000 for
+ * each %s item; and the most that there is. */
+static void expanding_texts_room(void) {
+    enum { TIMES = 200, LENGTH = 5 * TIMES, PRINTED = 1000 * TIMES };
+    static uint8_t buffer[TERMINFO_EXPAND_TEXTS_ROOM(LENGTH, TIMES)];
+    static uint8_t most[TERMINFO_EXPAND_MOST], text[1000];
+    char string[LENGTH + 1];
+    int32_t lasting[26] = {0};
+    uint64_t answer;
+    Arguments a;
+    size_t i;
+
+    assert(TERMINFO_EXPAND_TEXTS_ROOM(0, 0) == 0 && TERMINFO_EXPAND_TEXTS_ROOM(1, 0) == 25);
+    assert(TERMINFO_EXPAND_TEXTS_ROOM(2, 1) == 1050);
+    assert(2 * TERMINFO_EXPAND_TEXTS_ROOM(1 + 1, 1 + 1) == 4100);
+    assert(TERMINFO_EXPAND_TEXTS_ROOM(1000, 500) == TERMINFO_EXPAND_MOST);
+    assert(sizeof buffer == 225000 && sizeof most == 525000);
+    assert(sizeof TERMINFO_EXPAND_TEXTS_ROOM(1, 1) == sizeof(size_t));
+    for (i = 0; i < sizeof text; i++)
+        text[i] = (uint8_t)(i % 251);
+    for (i = 0; i < TIMES; i++)
+        memcpy(string + 5 * i, "%p1%s", 5);
+    string[LENGTH] = 0;
+    no_texts(&a, "");
+    a.texts = text;
+    a.texts_length = sizeof text;
+    give_text(&a, 0, 1, 0, 1000);
+
+    memset(buffer, '.', sizeof buffer);
+    answer = expand_texts(string, &a, lasting, buffer, PRINTED - 1, 0);
+    assert(terminfo_refusal(answer) == TERMINFO_REFUSED_ROOM && terminfo_value(answer) == PRINTED);
+    assert(buffer[0] == '.');
+    answer = expand_texts(string, &a, lasting, buffer, sizeof buffer, 0);
+    assert(terminfo_refusal(answer) == 0);
+    assert(terminfo_steps(answer) == 2 * TIMES && terminfo_length(answer) == PRINTED);
+    for (i = 0; i < sizeof buffer; i++)
+        assert(buffer[i] == (i >= PRINTED ? '.' : text[i % 1000]));
+    answer = expand_texts(string, &a, lasting, most, sizeof most, TERMINFO_EXPAND_MOST - PRINTED);
+    assert(terminfo_refusal(answer) == 0 && most[sizeof most - 1] == text[999]);
+    for (i = 0; i < LENGTH / 2; i++)
+        memcpy(string + 2 * i, "%s", 2);
+    answer = expand_texts(string, &a, lasting, most, sizeof most, 0);
+    assert(terminfo_refusal(answer) == TERMINFO_REFUSED_STACK_EMPTY && terminfo_value(answer) == 0);
 }
 
 /* The state of a capability by its name, in the second edition. */
@@ -495,6 +697,9 @@ int main(void) {
     no_positions();
     expanding();
     expanding_room();
+    expanding_texts();
+    refused_texts();
+    expanding_texts_room();
     compiling();
     editions();
     descriptions();

@@ -33,7 +33,7 @@ sleep "${WAIT:-0}"
 echo "rt: ti proved (2 s)"
 mkdir -p target/bin target/staticlib
 cp ../program target/bin/ti
-case $1 in staticlib) echo archive >target/staticlib/libterminfo_c.a ;; esac
+case $1 in staticlib) echo archive >target/staticlib/lib$2.a ;; esac
 echo "rt: ok, 2 crates proved"
 """
 PROGRAM = """#!/bin/sh
@@ -70,6 +70,7 @@ def installed():
     """The files that are put below a prefix, with their bytes and modes."""
     files = {"bin/ti": (TI, 0o755), "lib/chulindafe/ti": (ROOT / "target/bin/ti", 0o755),
              "lib/libterminfo_c.a": (ROOT / "target/staticlib/libterminfo_c.a", 0o644),
+             "lib/libterminfo_texts_c.a": (ROOT / "target/staticlib/libterminfo_texts_c.a", 0o644),
              "share/man/man1/ti.1": (ROOT / "docs/man/ti.1", 0o644),
              "share/man/man3/terminfo_c.3": (ROOT / "docs/man/terminfo_c.3", 0o644)}
     for header in (ROOT / "include").glob("*.h"):
@@ -207,7 +208,7 @@ def repository(name):
     (top / "repository/crates").mkdir()
     for part in ("include", "docs/man"):
         shutil.copytree(ROOT / part, top / "repository" / part)
-    crates = "# two crates\nbase:\nlone:\nti: base io\nterminfo_c: base\n"
+    crates = "# two crates\nbase:\nlone:\nti: base io\nterminfo_c: base\nterminfo_texts_c: base\n"
     (top / "repository/crates.txt").write_text(crates, encoding="utf-8")
     for path, text in (("bin/rt", STAND_IN), ("program", PROGRAM)):
         (top / path).write_text(text, encoding="utf-8")
@@ -250,12 +251,14 @@ def check_build():
     out, _ = run([ti, "build"], PATH=path)
     same(out, f"built: {top}/repository/target/bin/ti\n", "build")
     run([ti, "install", top / "prefix"], PATH=path, RT_JOBS="7")
-    same(rt_runs(top)[2:], ["run 7 check base", "run 7 staticlib terminfo_c"], "library")
-    same((top / "prefix/lib/libterminfo_c.a").read_bytes(), b"archive\n", "library")
+    same(rt_runs(top)[2:], [f"run 7 {words}" for library in ("terminfo_c", "terminfo_texts_c")
+                            for words in ("check base", f"staticlib {library}")], "libraries")
+    for library in ("terminfo_c", "terminfo_texts_c"):
+        same((top / f"prefix/lib/lib{library}.a").read_bytes(), b"archive\n", library)
     later = time.time() + 10
     os.utime(top / "repository/crates.txt", (later, later))
     _, errors = run([ti, "install", top / "prefix"], PATH=path)
-    same(errors.count("crates.txt is newer than"), 2, errors)
+    same(errors.count("crates.txt is newer than"), 3, errors)
     same((top / "repository/target/ti.lock").is_symlink(), False, "lock")
 
 

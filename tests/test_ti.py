@@ -20,10 +20,11 @@ import expand_model
 import model
 import text_model
 import use_texts
+from expand_model import LARGEST_TEXT, Text
 from model import FIRST_EDITION, LARGEST_EDITION, LARGEST_FILE, SECOND_EDITION, Refusal
 from test_compile import larger, pick_text
-from test_expand import pick_string, pick_values
-from test_random import make_pair, pick, pick_file, rng, upto
+from test_expand import PFKEY, for_arguments, lend, pick_lent, pick_string, pick_values
+from test_random import NO_NULS, below, make_pair, pick, pick_file, rng, upto
 from test_uses import EXAMPLES, HEADERS
 from test_uses import pick_text as pick_uses, pick_wanted
 from test_vectors import same
@@ -67,11 +68,13 @@ USE_SENTENCES = {
     20: "{} is the ninth use of a chain, which may have eight",
 }
 STRING_SENTENCES = {
-    1: "the string is longer than 1,000 bytes",
+    1: "the string or a text is longer than 1,000 bytes",
     14: "malformed item, or a conditional that is not closed",
     15: "an item takes a value from the empty stack",
     16: "an item puts a value on the full stack of 20",
+    21: "an item takes a value of the other kind, a number or a text",
 }
+NUMBER_WORD = re.compile(rb"-?[0-9]+")
 OTHER_KIND = {
     model.BOOLEAN: "is a boolean, which is written alone",
     model.NUMBER: "is a number, which is written with #",
@@ -695,32 +698,79 @@ def with_string(string, place):
     return model.written(b"a|b", states, LARGEST_FILE)
 
 
-def verbose_lines(output, steps, size):
-    """What ti expand -v prints for a string of this size."""
-    return (f"{shown(output, 33)}\n{steps} steps (at most {size}), {len(output)} bytes "
-            f"(at most {25 * size})\n").encode()
+def verbose_lines(made, string, longest):
+    """What ti expand -v prints for a string where the longest text has so many bytes."""
+    most = 25 * len(string) + longest * expand_model.texts_of(string)
+    return (f"{shown(made.output, 33)}\n{made.steps} steps (at most {len(string)}), "
+            f"{len(made.output)} bytes (at most {most})\n").encode()
+
+
+def word_of(value):
+    """A word that gives ti an argument: a number, or bytes for a text."""
+    if isinstance(value, int):
+        return b"%d" % value
+    marked = NUMBER_WORD.fullmatch(value) or value.startswith(b"=") or pick(True, False)
+    return b"=" + value if marked else value
 
 
 def check_expansion(string, values):
-    """ti expand and ti expand -v on a string with some values."""
+    """ti expand and ti expand -v on a string with some values; bytes stand for a text."""
     name = pick("cup", "cup", "sgr", "mc5p", "pln")
     place = model.STRINGS.index(name)
     put("file", with_string(string, place))
     edition = pick(SECOND_EDITION, LARGEST_EDITION, (0, 0, place + 1))
-    words = ["file", name, *map(str, values)]
+    words = ["file", name, *map(word_of, values)]
     found = raw("expand", *option(edition), *words)
     verbose = raw("expand", *pick([*option(edition), "-v"], ["-v", *option(edition)]), *words)
+    nine, lent = lend(values)
     try:
-        nine = list(values) + [0] * (9 - len(values))
-        made = expand_model.expand(string, nine, [0] * 26, 1 << 20, 0)
+        made = expand_model.expand(string, nine, [0] * 26, 1 << 20, 0, lent)
     except Refusal as refusal:
         for run in found, verbose:
             refused(run, f"file: {name}", refusal.number, STRING_SENTENCES[refusal.number],
-                    refusal.value if refusal.number in (14, 15, 16) else None)
+                    refusal.value if refusal.number in (14, 15, 16, 21) else None)
         return refusal.number
+    longest = max((argument.length for argument in nine if isinstance(argument, Text)), default=0)
     same(found, (0, made.output, ""), string)
-    same(verbose, (0, verbose_lines(made.output, made.steps, len(string)), ""), string)
+    same(verbose, (0, verbose_lines(made, string, longest), ""), string)
     return 0
+
+
+def check_arguments():
+    """Words that are numbers, texts and neither; pfkey and pln of hpterm, as ti compiles it."""
+    hpterm = (Path(TI).parent / "examples" / "hpterm.ti").read_bytes()
+    put("hpterm", expected(hpterm, SECOND_EDITION)[2])
+    put("length", with_string(b"%p1%l%d", model.STRINGS.index("cup")))
+    put("text", with_string(b"<%p1%s>", model.STRINGS.index("cup")))
+    put("number", with_string(b"<%p1%d>", model.STRINGS.index("cup")))
+    same(raw("expand", "hpterm", "pfkey", "1", "ls -l\r"), (0, b"\33&f1k6Lls -l\r", ""), "pfkey")
+    same(raw("expand", "-v", "hpterm", "pfkey", "1", "ls -l"),
+         (0, b"\\033&f1k5Lls\\040-l\n12 steps (at most 22), 12 bytes (at most 555)\n", ""), "pfkey")
+    same(raw("expand", "-v", "hpterm", "pfkey", "1", "a", "ninety"),
+         (0, b"\\033&f1k1La\n12 steps (at most 22), 8 bytes (at most 556)\n", ""), "longest text")
+    same(raw("expand", "hpterm", "pln", "8", "=8"), (0, b"\33&f8k1d0L8", ""), "pln")
+    refused(raw("expand", "hpterm", "pfkey", "1"), "hpterm: pfkey", 21, STRING_SENTENCES[21], 12)
+    refused(raw("expand", "hpterm", "pfkey", "x", "y"), "hpterm: pfkey", 21, STRING_SENTENCES[21], 6)
+    for number in (0, 1, -1, 2**31 - 1, -2**31):
+        for word in (f"{number}", f"{number:040d}"):
+            same(raw("expand", "number", "cup", word), (0, b"<%d>" % number, ""), word)
+            refused(raw("expand", "text", "cup", word), "text: cup", 21, STRING_SENTENCES[21], 4)
+            same(raw("expand", "text", "cup", "=" + word), (0, f"<{word}>".encode(), ""), word)
+    texts = [b"", b"x", b"-", b"--", b"-v", b"-x1", b"+1", b"1x", b" 1", b"1 ", b"0x10", b"1.5", b"--1",
+             b"1-", b"a=b", b"\xff\x80", bytes(range(1, 256)), (LARGEST_TEXT - 1) * b"x"]
+    for text in texts:
+        for word in (text, b"=" + text):
+            same(raw("expand", "length", "cup", word), (0, b"%d" % len(text), ""), word)
+            same(raw("expand", "text", "cup", word), (0, b"<" + text + b">", ""), word)
+        same(raw("expand", "text", "cup", b"==" + text), (0, b"<=" + text + b">", ""), text)
+    for size in (1001, 2000, 4000):
+        for words in ([size * "x"], ["0", size * "x"], [*8 * "0", size * "x"], ["=" + size * "9"]):
+            refused(raw("expand", "act", "cup", *words), "act: cup", 1, STRING_SENTENCES[1])
+    for word in ("2147483648", "-2147483649", "00002147483648", 20 * "9", "-" + 20 * "9", 70 * "1"):
+        for words in ([word], ["x", word], [*8 * "0", word]):
+            same(raw("expand", "act", "cup", *words)[:2], (2, b""), words)
+        same(raw("expand", "text", "cup", "=" + word), (0, f"<{word}>".encode(), ""), word)
+    return 6 + 30 + 5 * len(texts) + 12 + 24
 
 
 def check_expansions():
@@ -736,6 +786,11 @@ def check_expansions():
                 (21 * b"%p1", ()), (20 * b"%p1", ()), (b"%", ()), (1000 * b"x", ()),
                 (1001 * b"x", ()),
                 (b"%p9%d", tuple(range(1, 10))), (b"%p1%d%p2%d", (-2**31, 2**31 - 1)), (b"", ())]
+    examples += [(PFKEY, (1, b"ls -l")), (PFKEY, (1, b"")), (PFKEY, (1, 2)), (PFKEY, ()),
+                 (b"%p1%s%p9%s", (b"a", *7 * [0], b"b")), (b"%p1%+", (b"a",)), (b"%s", (b"a",)),
+                 (b"%i%p1%s%p2%d", (b"5", 5)), (b"%p1%5s", (b"a",)), (b"x", (1001 * b"x",)),
+                 (b"%?%p2%t%s%;%p1%s", (b"a",)), (200 * b"%p1%s", (LARGEST_TEXT * b"x",)),
+                 (200 * b"%p9%s", 9 * (LARGEST_TEXT * b"y",)), (500 * b"%s", (b"x",))]
     for string, values in examples:
         check_expansion(string, values)
     _, _, changed = text_model.compile(b"a|b,\n cup@, ri=,\n", LARGEST_FILE, SECOND_EDITION)
@@ -752,16 +807,19 @@ def check_expansions():
     refused_beyond(raw("expand", "-e", "37,16,10", "changed", "cup"), "changed", "cup")
     same(raw("expand", "act", "acsc"), (1, b"", "ti: act: acsc is absent\n"), "beyond the file")
     same(raw("expand", "changed", 5000 * "c")[:2], (2, b""), "a long name")
-    for word in ("x", "", "-", "+1", "1x", " 1", "2147483648", "-2147483649", 20 * "9", 70 * "1"):
-        same(raw("expand", "act", "cup", word)[:2], (2, b""), word)
     numbers = Counter()
     for _ in range(STRINGS):
-        string = pick_string().replace(b"\0", b"0")
-        numbers[check_expansion(string, pick_values(pick(0, 1, 2, 9)))] += 1
-    missing = {0, 14, 15, 16} - set(numbers)
+        values = pick_values(pick(0, 1, 2, 9))
+        if below(3):
+            most = pick(LARGEST_TEXT, LARGEST_TEXT, LARGEST_TEXT, 3 * LARGEST_TEXT)
+            values = [pick_lent().translate(NO_NULS)[:most] if below(2) else value
+                      for value in values]
+        for_arguments(lend(values)[0])
+        numbers[check_expansion(pick_string().replace(b"\0", b"0"), values)] += 1
+    missing = {0, 1, 14, 15, 16, 21} - set(numbers)
     if missing:
         sys.exit(f"expand: never seen: {missing}")
-    return 2 * len(examples) + 25 + 2 * STRINGS
+    return 2 * len(examples) + 15 + 2 * STRINGS + check_arguments()
 
 
 def check_bad_files():

@@ -279,7 +279,8 @@ abbrev pub expansion : Answer Counts → Expansion
 expansion (gives c) = E.Done (c .length) (c .steps)
 expansion (refused n v) =
     if eqb n 17 then E.Place else if eqb n 1 then E.Length else if eqb n 14 then E.Malformed (getD v 0 0)
-    else if eqb n 15 then E.Empty (getD v 0 0) else if eqb n 16 then E.Full (getD v 0 0) else E.Room (getD v 0 0)
+    else if eqb n 15 then E.Empty (getD v 0 0) else if eqb n 16 then E.Full (getD v 0 0)
+    else if eqb n 21 then E.Kind (getD v 0 0) else E.Room (getD v 0 0)
 
 pub expansion-back : (r : Expansion) → expansion (plain (saysExpansion r)) ≡ r
 expansion-back (E.Done n k) = refl
@@ -288,4 +289,5 @@ expansion-back E.Length = refl
 expansion-back (E.Malformed i) = refl
 expansion-back (E.Empty i) = refl
 expansion-back (E.Full i) = refl
+expansion-back (E.Kind i) = refl
 expansion-back (E.Room n) = refl

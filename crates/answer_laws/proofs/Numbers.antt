@@ -386,6 +386,7 @@ expansion-fits E.Length h = omega arith
 expansion-fits (E.Malformed i) h = omega arith
 expansion-fits (E.Empty i) h = omega arith
 expansion-fits (E.Full i) h = omega arith
+expansion-fits (E.Kind i) h = omega arith
 expansion-fits (E.Room n) h = omega arith
 
 counts-tell : (c d : Counts) → CountsOk c → CountsOk d → countsCode c ≡ countsCode d → c ≡ d

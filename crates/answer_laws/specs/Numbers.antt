@@ -25,7 +25,7 @@ use Rattle.names.specs.Finding.{saysFound}
 use Rattle.text.specs.Compiling.{saysCompiled}
 use Rattle.building_laws.specs.Values.{Bounded}
 use Rattle.expansion.specs.declared.Expansion.{Expansion}
-use Rattle.expansion.specs.Limits.{stringMost}
+use Rattle.expansion.specs.Limits.{stringMost, expansionMost}
 use Rattle.expansion.specs.Expanding.{saysExpansion, Within}
 use Rattle.c_numbers.specs.Numbers.{numbered, mergingNumber, none, partCode, booleanNumber, numberNumber, stringNumber}
 use Rattle.c_numbers.specs.Numbers.{openingArray, countsCode, capabilityNumber}
@@ -54,9 +54,9 @@ abbrev pub NameWithin : Name → Type 0
 NameWithin (A.Packed w) = w < 2 ^ 56
 NameWithin A.Beyond = Unit {0}
 
--- an expansion of a string of at most 1,000 bytes, as the contract of expand::expand_lent has it (`within` of LentAs)
+-- an expansion of a string of at most 1,000 bytes, as the contracts of `expand` have it (`within` of LentAs)
 abbrev pub ExpansionWithin : Expansion → Type 0
-ExpansionWithin r = Within stringMost r
+ExpansionWithin r = Within stringMost expansionMost r
 
 -- ---- statements
 

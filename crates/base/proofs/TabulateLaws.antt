@@ -5,7 +5,7 @@ use mathlib.Core.List.{List, [], _∷_, _++_, map}
 use Prim.Native.Nat.{ℕ, zero, suc, _+_, _<_, suc-le-suc}
 use native.Mathlib.Nat.{not-suc-le-zero, le-of-suc-le-suc, zero-lt-suc}
 use native.Mathlib.Omega.{arith}
-use lib.ListN.{length, getD, replicate}
+use lib.ListN.{length, getD, set, drop, replicate}
 use Rattle.base.specs.Tabulate.{tabulate, Each}
 
 pub length-tabulate {ℓ} : {A : Type ℓ} (g : ℕ → A) (n : ℕ) → length (tabulate g n) ≡ n
@@ -61,3 +61,23 @@ each-append P (x ∷ xs) ys h w = (h .0, each-append P xs ys (h .1) w)
 pub each-replicate : {A : Type 0} (P : A → Type 0) (n : ℕ) (v : A) → P v → Each P (replicate n v)
 each-replicate P zero v w = tt
 each-replicate P (suc n) v w = (w, each-replicate P n v w)
+
+pub each-getD : {A : Type 0} (P : A → Type 0) (xs : List A) (i : ℕ) (d : A) → Each P xs → P d → P (getD xs i d)
+each-getD P [] i d h w = w
+each-getD P (x ∷ xs) zero d h w = h .0
+each-getD P (x ∷ xs) (suc i) d h w = each-getD P xs i d (h .1) w
+
+pub each-set : {A : Type 0} (P : A → Type 0) (xs : List A) (i : ℕ) (v : A) → Each P xs → P v → Each P (set xs i v)
+each-set P [] i v h w = tt
+each-set P (x ∷ xs) zero v h w = (w, h .1)
+each-set P (x ∷ xs) (suc i) v h w = (h .0, each-set P xs i v (h .1) w)
+
+pub each-drop : {A : Type 0} (P : A → Type 0) (n : ℕ) (xs : List A) → Each P xs → Each P (drop n xs)
+each-drop P zero xs h = h
+each-drop P (suc n) [] h = tt
+each-drop P (suc n) (x ∷ xs) h = each-drop P n xs (h .1)
+
+-- what holds of everything holds of every element
+pub each-all : {A : Type 0} (P : A → Type 0) (xs : List A) → ((x : A) → P x) → Each P xs
+each-all P [] h = tt
+each-all P (x ∷ xs) h = (h x, each-all P xs h)

@@ -9,7 +9,7 @@ ghost use Rattle.names.specs.Finding.{saysFound};
 ghost use Rattle.names.specs.Naming.{saysName};
 ghost use Rattle.text.specs.Compiling.{saysCompiled};
 ghost use Rattle.building_laws.specs.Values.{Bounded};
-ghost use Rattle.expansion.specs.Limits.{stringMost};
+ghost use Rattle.expansion.specs.Limits.{stringMost, expansionMost};
 ghost use Rattle.expansion.specs.Expanding.{saysExpansion, Within};
 ghost use Rattle.c_numbers.specs.Numbers.{numbered, mergingNumber, partCode, refusedNumber};
 ghost use Rattle.c_numbers.specs.Numbers.{booleanNumber, numberNumber, stringNumber};
@@ -180,7 +180,7 @@ pub fn name_number(n: Name) -> u64
 
 // An expansion of a string of at most 1,000 bytes: its steps and its output's length are within their bits.
 pub fn expansion_number(e: Expansion) -> u64
-    requires { ⌜ Within stringMost e ⌝ }
+    requires { ⌜ Within stringMost expansionMost e ⌝ }
     ensures { λ r. ⌜ r ≡ numbered countsCode (saysExpansion e) ⌝ }
 {
     let refusal = top(refusal_numbers::of_expansion(e));
@@ -191,6 +191,7 @@ pub fn expansion_number(e: Expansion) -> u64
         Expansion::Malformed(i) => refusal + i as u64,
         Expansion::Empty(i) => refusal + i as u64,
         Expansion::Full(i) => refusal + i as u64,
+        Expansion::Kind(i) => refusal + i as u64,
         Expansion::Room(n) => refusal + n as u64,
     }
 }

@@ -14,13 +14,14 @@ use Rattle.expansion.specs.declared.Classed.{Classed}
 use Rattle.expansion.specs.Items.{byteAt, isDigit, isNonzero, singles, found, argumentAt, bracedAt, itemAt}
 use Rattle.expansion.specs.Form.{classOf, classAt}
 use Rattle.item_parts.specs.Classes.{itemClass}
+use Rattle.item_parts.specs.Right.{ArgumentTested}
 use Rattle.item_parts.proofs.Cases.{within-true, behind, percent-byte, bracedFrom, braced-start, braced-step, braced-close}
 use Rattle.expansion_laws.specs.Forms.{class-on}
 use Rattle.conditionals.specs.declared.Turn.the-variants.{Go}
 use Rattle.conditionals.specs.declared.Quick.{Quick}
 use Rattle.conditionals.specs.declared.Quick.the-variants.{Item, Test}
 use Rattle.conditionals.specs.Walk.{nested, formLeft}
-use Rattle.conditionals.specs.Scan.{ArgumentTested, Tested, QuickAs, QuickIf, QuickBraced, QuickArgument, ScannedAs}
+use Rattle.conditionals.specs.Scan.{Tested, QuickAs, QuickIf, QuickBraced, QuickArgument, ScannedAs}
 use Rattle.conditionals.proofs.WalkLaws.{left-go, nested-most}
 
 -- ---- the classes of items at bytes that were read
@@ -115,15 +116,6 @@ two-digits-told s k e h d d′ c i p q n =
     let a‴ : k + 3 ≡ i + 1 + 4 = omega arith in
     rw (e, a‴) (class-percent s i 123 p q ∙ two-digits s (i + 1) (rw a at d) (omega arith) (rw a′ at d′) (rw a″ at c))
 
--- `%p`, a digit and `%t`
-pub argument-tested : (s : List ℕ) (i : ℕ) → byteAt s i ≡ 37 → byteAt s (i + 1) ≡ 112 → isNonzero (byteAt s (i + 2)) ≡ true
-    → byteAt s (i + 3) ≡ 37 → byteAt s (i + 4) ≡ 116 → ArgumentTested s i
-unfolding singles found classOf
-argument-tested s i p q d p′ t =
-    let n : i + 3 + 1 ≡ i + 4 = omega arith in
-    let m : i + 3 + 2 ≡ i + 5 = omega arith in
-    record { argument-there = class-argument s i p q d; then-there = rw m at (class-pair s (i + 3) 116 Then p′ (rw n t) refl) }
-
 class-if : (s : List ℕ) (i : ℕ) → byteAt s i ≡ 37 → byteAt s (i + 1) ≡ 63 → classAt s i ≡ record { class = If; next = i + 2 }
 unfolding singles found classOf
 class-if s i p q = class-pair s i 63 If p q refl
@@ -132,12 +124,15 @@ pub if-told : (s : List ℕ) (k : ℕ) {r : Quick} → r ≡ Item If k → Quick
 if-told s k e i p q n = rw (e, n) (class-if s i p q)
 
 pub test-told : (s : List ℕ) (k : ℕ) → ArgumentTested s k → QuickIf s k (Test (k + 5))
+unfolding classAt classOf
 test-told s k a i p q n =
     let m : k + 3 ≡ i + 5 = omega arith in
+    let argument : classAt s k ≡ record { class = Plain; next = k + 3 } = ap itemClass (a .argument) in
+    let test : classAt s (k + 3) ≡ record { class = Then; next = k + 5 } = ap itemClass (a .test) in
     record {
       if-there = class-if s i p q;
-      argument-there = rw (m, n) at (a .argument-there);
-      then-there = rw m at (a .then-there);
+      argument-there = rw (m, n) at argument;
+      then-there = rw m at test;
     }
 
 -- ---- the turns of a scan

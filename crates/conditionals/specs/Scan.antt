@@ -13,11 +13,6 @@ use Rattle.conditionals.specs.declared.Quick.the-variants.{Item, Test, S
 use Rattle.conditionals.specs.declared.Scanned.{Scanned}
 use Rattle.conditionals.specs.Walk.{nestedMost, formLeft}
 
--- an argument and `%t` stand at i
-pub record ArgumentTested (s : List ℕ) (i : ℕ) : Type 0 where
-  pub argument-there : classAt s i ≡ record { class = C.Plain; next = i + 3 }
-  pub then-there : classAt s (i + 3) ≡ record { class = C.Then; next = i + 5 }
-
 -- `%?`, an argument and `%t` stand at i, and next is the place behind them
 pub record Tested (s : List ℕ) (i next : ℕ) : Type 0 where
   pub if-there : classAt s i ≡ record { class = C.If; next = i + 2 }

@@ -4,12 +4,11 @@
 // condition from `%?` on, 2 a body, 3 what follows `%e`. Items that are quickly told are passed by `scan`, any other
 // is judged by its class.
 ghost use mathlib.Core.Path.{_≡_};
-ghost use mathlib.Core.Bool.{true};
 ghost use Prim.Native.Nat.{_+_, _≤_, _<_};
 ghost use lib.ListN.{length};
 ghost use Rattle.expansion.specs.Form.{formOf};
 ghost use Rattle.conditionals.specs.Walk.{nestedMost, nested};
-ghost use Rattle.conditionals.specs.Scan.{ArgumentTested, PercentAt, QuickAs, ScannedAs};
+ghost use Rattle.conditionals.specs.Scan.{PercentAt, QuickAs, ScannedAs};
 ghost use Rattle.conditionals.specs.Scan.{QuickIf, QuickBraced, QuickArgument};
 ghost use Rattle.conditionals.specs.declared.Quick.the-variants as Quick;
 use expansion::Class;
@@ -78,35 +77,12 @@ fn quick_item(class: Class, next: usize) -> Quick
     }
 }
 
-// Whether `%p`, a digit from 1 on and `%t` stand at a place.
-fn tests_argument(s: &[u8], i: usize) -> bool
-    requires { ⌜ i ≤ length (now s) ⌝ }
-    ensures { λ r. ⌜ (r ≡ true → ArgumentTested (now (s .entry)) i) ⌝ }
-{
-    if s.len() < i + 5 {
-        return false;
-    }
-    if s[i] != b'%' {
-        return false;
-    }
-    if s[i + 1] != b'p' {
-        return false;
-    }
-    if !item_parts::is_nonzero(s[i + 2]) {
-        return false;
-    }
-    if s[i + 3] != b'%' {
-        return false;
-    }
-    s[i + 4] == b't'
-}
-
 // The `%?` before a place.
 fn quick_if(s: &[u8], i: usize) -> Quick
     requires { ⌜ i ≤ length (now s) ⌝ }
     ensures { λ r. ⌜ QuickIf (now (s .entry)) i r ⌝ }
 {
-    if tests_argument(s, i) {
+    if item_parts::tests_argument(s, i) {
         Quick::Test(i + 5)
     } else {
         quick_item(Class::If, i)
@@ -164,6 +140,8 @@ fn quick_percent(s: &[u8], i: usize) -> Quick
         b'o' => quick_item(Class::Plain, next),
         b'x' => quick_item(Class::Plain, next),
         b'X' => quick_item(Class::Plain, next),
+        b's' => quick_item(Class::Plain, next),
+        b'l' => quick_item(Class::Plain, next),
         b'+' => quick_item(Class::Plain, next),
         b'-' => quick_item(Class::Plain, next),
         b'*' => quick_item(Class::Plain, next),
@@ -206,8 +184,8 @@ fn quick_at(s: &[u8], i: usize) -> Quick
     quick_item(Class::Plain, i + 1)
 }
 
-// Passes over the items that are quickly told, and stops at any other, right or wrong, at one that may not stand there,
-// and at the last two places.
+// Passes over the items that are quickly told, and stops at any other, right or wrong, at one that may not stand
+// there, and at the last two places.
 fn scan(s: &[u8], from: usize, before: u64) -> Scanned
     requires { ⌜ before ≤ nestedMost ⌝ }
     ensures { λ r. ⌜ ScannedAs (now (s .entry)) from before r ⌝ }

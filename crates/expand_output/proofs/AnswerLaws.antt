@@ -12,7 +12,6 @@ use borrow.Author.Tests.{le-leb, lt-leb, leb-true}
 use borrow.Rule.Slice.PartMut.{midOf, putMid, mid-len, put-same}
 use Rattle.base.specs.Overwrite.{putAt}
 use Rattle.base.specs.Answer.{Answer, refused, gives}
-use Rattle.expansion.specs.Limits.{roomFor}
 use Rattle.expansion.specs.declared.Form.{Form}
 use Rattle.expansion.specs.declared.Form.the-variants as F
 use Rattle.expansion.specs.declared.Expansion.{Expansion}
@@ -47,32 +46,33 @@ done-finished (finished m o j) v {r} {l} {k} d h =
     record { end = m; output = o; is = ap (finished m o) g; lasting = h .1; long = e }
 done-finished (failed j i) v d h = absurd (no-failure d h)
 
-module _ (n room : ℕ) (v : List ℤ) (b : List ℕ) where
+-- a string of n bytes whose output has at most `most` bytes, and a buffer of `room` bytes
+module _ (n most room : ℕ) (v : List ℤ) (b : List ℕ) where
   -- a run that fails
   pub answer-refused : (y : Outcome) (r : Ran) (w : List ℤ) {x : Expansion} {k : ℕ} {is : List ℕ} → RanAs y r w → saysRan r ≡ refused k is
-      → saysExpansion x ≡ refused k is → Within n x → LentAs n (ended y room) v v b 0 b x
+      → saysExpansion x ≡ refused k is → Within n most x → LentAs n most (ended y room) v v b 0 b x
   unfolding ended
   answer-refused (finished m o j) r w h e g u = absurd (no-failure (h .0) e)
   answer-refused (failed j i) r w h e g u = let q = h in record { answer = cc; lasting = refl; output = refl; within = u }
 
   -- a run that ends well, and its output
-  pub answer-room : {y : Outcome} {w : List ℤ} {l k : ℕ} → Finished y w l k → room < l → l ≤ roomFor n
-      → LentAs n (ended y room) v v b 0 b (E.Room l)
+  pub answer-room : {y : Outcome} {w : List ℤ} {l k : ℕ} → Finished y w l k → room < l → l ≤ most
+      → LentAs n most (ended y room) v v b 0 b (E.Room l)
   unfolding ended
   answer-room {y} {w} {l} {k} f h u =
       rw (f .is, lt-leb (length (f .output)) room (omega (arith, f .long)))
       (record { answer = ap (λ (x : ℕ). refused 8 (x ∷ [])) (sym (f .long)); lasting = refl; output = refl; within = u })
 
-  pub answer-given : {y : Outcome} {w : List ℤ} {b′ : List ℕ} {l k : ℕ} (f : Finished y w l k) → l ≤ room → Within n (E.Done l k)
-      → b′ ≡ putAt b 0 (f .output) → LentAs n (ended y room) v w b 0 b′ (E.Done l k)
+  pub answer-given : {y : Outcome} {w : List ℤ} {b′ : List ℕ} {l k : ℕ} (f : Finished y w l k) → l ≤ room → Within n most (E.Done l k)
+      → b′ ≡ putAt b 0 (f .output) → LentAs n most (ended y room) v w b 0 b′ (E.Done l k)
   unfolding ended
   answer-given {y} {w} {b′} {l} {k} f h u e =
       rw (f .is, le-leb (length (f .output)) room (omega (arith, f .long)))
       (record { answer = rw (f .long); lasting = f .lasting; output = e; within = u })
 
 -- a string whose form is wrong
-pub answer-malformed : (s : List ℕ) (a : Answer Expanding) (v : List ℤ) (b : List ℕ) {p : ℕ} → formOf s ≡ F.Wrong p
-    → LentAs (length s) (formed (formOf s) a) v v b 0 b (E.Malformed p)
+pub answer-malformed : (s : List ℕ) {most : ℕ} (a : Answer Expanding) (v : List ℤ) (b : List ℕ) {p : ℕ} → formOf s ≡ F.Wrong p
+    → LentAs (length s) most (formed (formOf s) a) v v b 0 b (E.Malformed p)
 unfolding formed
 answer-malformed s a v b e = rw e (record { answer = refl; lasting = refl; output = refl; within = wrong-inside s e })
 
@@ -90,18 +90,18 @@ given-fits F.Right (finished m o n) room x e = by-test (leb (length o) room) ref
     by-test false t q = let u = rw t at q in absurd (let z : _≡_ {A = ℕ} 0 1 = cc in (let w : ⊥ = omega arith in w))
 
 -- an answer whose output fits the part of k bytes from at on
-part-answer : (a : Answer Expanding) {n : ℕ} {v v′ : List ℤ} (b : List ℕ) {p : List ℕ} (at k : ℕ) {r : Expansion} → at + k ≤ length b
+part-answer : (a : Answer Expanding) {n most : ℕ} {v v′ : List ℤ} (b : List ℕ) {p : List ℕ} (at k : ℕ) {r : Expansion} → at + k ≤ length b
     → ((x : Expanding) → a ≡ gives x → length (x .output) ≤ k)
-    → LentAs n a v v′ (midOf at k b) 0 p r → LentAs n a v v′ b at (putMid at k b p) r
+    → LentAs n most a v v′ (midOf at k b) 0 p r → LentAs n most a v v′ b at (putMid at k b p) r
 part-answer (refused m is) b at k h f l =
     record { answer = l .answer; lasting = l .lasting; output = ap (putMid at k b) (l .output) ∙ put-same at k b; within = l .within }
 part-answer (gives x) b at k h f l =
     record { answer = l .answer; lasting = l .lasting; output = ap (putMid at k b) (l .output) ∙ part-put at k b (x .output) h (f x refl); within = l .within }
 
 -- a call that is lent the part from at on
-pub answer-part : (f : Form) (y : Outcome) {n : ℕ} {v v′ : List ℤ} (b : List ℕ) {p : List ℕ} (at : ℕ) {r : Expansion} → at ≤ length b
-    → LentAs n (formed f (ended y (length (midOf at (length b - at) b)))) v v′ (midOf at (length b - at) b) 0 p r
-    → LentAs n (formed f (ended y (length b - at))) v v′ b at (putMid at (length b - at) b p) r
+pub answer-part : (f : Form) (y : Outcome) {n most : ℕ} {v v′ : List ℤ} (b : List ℕ) {p : List ℕ} (at : ℕ) {r : Expansion} → at ≤ length b
+    → LentAs n most (formed f (ended y (length (midOf at (length b - at) b)))) v v′ (midOf at (length b - at) b) 0 p r
+    → LentAs n most (formed f (ended y (length b - at))) v v′ b at (putMid at (length b - at) b p) r
 answer-part f y b at h l =
     let e : length (midOf at (length b - at) b) ≡ length b - at = mid-len at (length b) b (omega arith) in
     part-answer (formed f (ended y (length b - at))) b at (length b - at) (omega arith) (given-fits f y (length b - at)) (rw e at l)

@@ -9,10 +9,16 @@ use lib.Seq.{take-at, length-take-le, drop-append-le, drop-drop}
 use borrow.Rule.Slice.PartMut.{midOf, putMid, drop-put}
 use Rattle.base.specs.Overwrite.{putAt}
 use Rattle.base.proofs.OverwriteLaws.{put-front}
+use Rattle.expand_output.specs.Answers.{KeptAs}
 
 -- the first bytes of a buffer that holds o from its first byte on
 pub front-is : (c o : List ℕ) (n : ℕ) → length o ≡ n → take n (putAt c 0 o) ≡ o
 front-is c o n e = ap (take n) (put-front c o) ∙ take-at o (drop (length o) c) n e
+
+-- as many bytes as a short buffer has are kept in it
+pub kept-whole : {b k k′ : List ℕ} → length k′ ≡ length k → length k ≤ length b → k′ ≡ putAt k 0 (take (length k) b) → KeptAs b k k′ (length k′)
+kept-whole {b} {k} {k′} e l h =
+    record { inside = omega arith; room = omega arith; held = h ∙ ap (λ (n : ℕ). putAt k 0 (take n b)) (sym e) }
 
 -- bytes that are put into the part of k bytes from at on, and fit
 pub part-put : (at k : ℕ) (b o : List ℕ) → at + k ≤ length b → length o ≤ k

@@ -11,14 +11,17 @@ use lib.Seq.{drop-drop, length-take-le}
 use borrow.Rule.Slice.PartMut.{midOf, putMid, mid-len, same-len-mid, drop-put}
 use Rattle.base.specs.Overwrite.{putAt}
 use Rattle.base.specs.Answer.{refused}
+use Rattle.expansion.specs.declared.Argument.{Argument}
 use Rattle.expansion.specs.declared.Expansion.{Expansion}
 use Rattle.expansion.specs.declared.Expansion.the-variants as E
 use Rattle.expansion.specs.Machine.{Machine, Outcome, finished}
+use Rattle.expansion.specs.Counting.{roomWith}
 use Rattle.expansion.specs.Expanding.{ended, saysExpansion, Within}
+use Rattle.arguments.specs.Judged.{NoneLonger}
 use Rattle.expand_run.specs.declared.Ran.{Ran}
-use Rattle.expand_run.specs.declared.Ran.the-variants.{Done, Empty, Full}
+use Rattle.expand_run.specs.declared.Ran.the-variants.{Done, Empty, Full, Kind}
 use Rattle.expand_run.specs.Runs.{saysRan, RanAs, PutAs, RanWithin, RunAs}
-use Rattle.expand_output.specs.Answers.{LentAs}
+use Rattle.expand_output.specs.Answers.{LentAs, KeptAs}
 use Rattle.expand_output.proofs.BufferLaws.{front-is, part-put, put-back, put-over}
 use Rattle.expand_output.proofs.AnswerLaws as A
 use Rattle.expand_output.proofs.AnswerLaws.{Finished, no-failure, done-finished}
@@ -29,7 +32,7 @@ pub data Turn (y : Outcome) (b₀ b : List ℕ) (first end : ℕ) : Type 0 where
   one : b ≡ b₀ → end ≡ first → Turn y b₀ b first end
   two : (m : Machine) (o : List ℕ) (k : ℕ) → y ≡ finished m o k → end ≡ length o → drop end b ≡ drop end b₀ → Turn y b₀ b first end
 
--- what holds before a turn: the variables were v₀ and are v, the outcome of a run with them is f of them, and the buffer's first bytes are kept
+-- what holds before a turn: the variables are v, as they came, v₀; the outcome of a run with them is f of them, and the buffer's first bytes are kept
 pub record Trying (f : List ℤ → Outcome) (v₀ v : List ℤ) (kept b₀ b : List ℕ) (first end : ℕ) : Type 0 where
   pub lasting : v ≡ v₀
   pub bytes : take first kept ≡ take first b₀
@@ -39,23 +42,24 @@ pub record Trying (f : List ℤ → Outcome) (v₀ v : List ℤ) (kept b₀ b : 
   pub same : length b ≡ length b₀
   pub turn : Turn (f v₀) b₀ b first end
 
--- the first bytes were copied
-pub trying-start : {f : List ℤ → Outcome} {v : List ℤ} {kept b : List ℕ} {first : ℕ} (kept₀ : List ℕ) → kept ≡ putAt kept₀ 0 (take first b)
-    → first ≤ length kept → first ≤ length b → Trying f v v kept b b first first
-trying-start {f} {v} {kept} {b} {first} kept₀ e l h =
+-- the first bytes are kept
+pub trying-start : {f : List ℤ → Outcome} {v : List ℤ} {kept₀ kept b : List ℕ} {first : ℕ} → KeptAs b kept₀ kept first
+    → length kept ≡ length kept₀ → Trying f v v kept b b first first
+trying-start {f} {v} {kept₀} {kept} {b} {first} k l =
     record {
       lasting = refl;
-      bytes = ap (take first) e ∙ front-is kept₀ (take first b) first (length-take-le first b h);
-      held = l;
-      enough = h;
-      inside = h;
+      bytes = ap (take first) (k .held) ∙ front-is kept₀ (take first b) first (length-take-le first b (k .inside));
+      held = omega (arith, l, k .room);
+      enough = k .inside;
+      inside = k .inside;
       same = refl;
       turn = one refl refl;
     }
 
--- the run of a string of n bytes answers r, and the part that was lent holds p after it
+-- the run of a string s answers r, and after it the variables are w, and the part that was lent holds p
 module _ {f : List ℤ → Outcome} {v₀ v : List ℤ} {kept b₀ b : List ℕ} {first end : ℕ} (T : Trying f v₀ v kept b₀ b first end)
-    {n : ℕ} {r : Ran} {w : List ℤ} {p : List ℕ} (R : RunAs n (f v) (midOf 0 (end - 0) b) r w p) (q : length p ≡ length (midOf 0 (end - 0) b)) where
+    {s : List ℕ} {arguments : List Argument} {r : Ran} {w : List ℤ} {p : List ℕ} (R : RunAs s arguments (f v) (midOf 0 (end - 0) b) r w p)
+    (q : length p ≡ length (midOf 0 (end - 0) b)) where
   abbrev after : List ℕ
   after = putMid 0 (end - 0) b p
 
@@ -96,7 +100,7 @@ module _ {f : List ℤ → Outcome} {v₀ v : List ℤ} {kept b₀ b : List ℕ}
       let g : take end kept ≡ take end b = rw (none-first x .1, e) (T .bytes) in
       rw g (put-back end b p (omega (arith, T .inside, T .same)) (q ∙ lent ∙ (let z : end - 0 ≡ end = omega arith in z)) ∙ e)
 
-  ran : RunAs n (f v₀) (midOf 0 (end - 0) b) r w p
+  ran : RunAs s arguments (f v₀) (midOf 0 (end - 0) b) r w p
   ran = rw (T .lasting) at R
 
   -- a run that fails
@@ -109,26 +113,34 @@ module _ {f : List ℤ → Outcome} {v₀ v : List ℤ} {kept b₀ b : List ℕ}
   pub full-held : {i : ℕ} → r ≡ Full i → end ≤ length kept
   full-held e = none-held (failed-none (ap saysRan e))
 
-  turn-refused : {x : Expansion} {k : ℕ} {is b′ : List ℕ} → saysRan r ≡ refused k is → saysExpansion x ≡ refused k is → Within n x
-      → b′ ≡ putAt after 0 (take end kept) → LentAs n (ended (f v₀) (length b₀)) v₀ v b₀ 0 b′ x
-  turn-refused {x} {k} {is} {b′} e g i h =
+  pub kind-held : {i : ℕ} → r ≡ Kind i → end ≤ length kept
+  kind-held e = none-held (failed-none (ap saysRan e))
+
+  -- x is the answer, and after it the variables are v′, and the buffer holds b′
+  abbrev Answered : List ℤ → List ℕ → Expansion → Type 0
+  Answered v′ b′ x = (most : ℕ) → NoneLonger most arguments → LentAs (length s) (roomWith most s) (ended (f v₀) (length b₀)) v₀ v′ b₀ 0 b′ x
+
+  turn-refused : {x : Expansion} {k : ℕ} {is b′ : List ℕ} → saysRan r ≡ refused k is → saysExpansion x ≡ refused k is
+      → ((most : ℕ) → NoneLonger most arguments → Within (length s) (roomWith most s) x) → b′ ≡ putAt after 0 (take end kept) → Answered v₀ b′ x
+  turn-refused {x} {k} {is} {b′} e g i h most j =
       let a : b′ ≡ b₀ = h ∙ back (failed-none e) in
-      rw (a, T .lasting) (A.answer-refused n (length b₀) v₀ b₀ (f v₀) r w (ran .answer) e g i)
+      rw a (A.answer-refused (length s) (roomWith most s) (length b₀) v₀ b₀ (f v₀) r w (ran .answer) e g (i most j))
 
-  pub turn-empty : {i : ℕ} {b′ : List ℕ} → r ≡ Empty i → b′ ≡ putAt after 0 (take end kept)
-      → LentAs n (ended (f v₀) (length b₀)) v₀ v b₀ 0 b′ (E.Empty i)
-  turn-empty e h = turn-refused (ap saysRan e) refl (rw e at (ran .within)) h
+  pub turn-empty : {i : ℕ} {b′ : List ℕ} → r ≡ Empty i → b′ ≡ putAt after 0 (take end kept) → Answered v₀ b′ (E.Empty i)
+  turn-empty e h = turn-refused (ap saysRan e) refl (λ most j. rw e at (ran .within most j)) h
 
-  pub turn-full : {i : ℕ} {b′ : List ℕ} → r ≡ Full i → b′ ≡ putAt after 0 (take end kept)
-      → LentAs n (ended (f v₀) (length b₀)) v₀ v b₀ 0 b′ (E.Full i)
-  turn-full e h = turn-refused (ap saysRan e) refl (rw e at (ran .within)) h
+  pub turn-full : {i : ℕ} {b′ : List ℕ} → r ≡ Full i → b′ ≡ putAt after 0 (take end kept) → Answered v₀ b′ (E.Full i)
+  turn-full e h = turn-refused (ap saysRan e) refl (λ most j. rw e at (ran .within most j)) h
+
+  pub turn-kind : {i : ℕ} {b′ : List ℕ} → r ≡ Kind i → b′ ≡ putAt after 0 (take end kept) → Answered v₀ b′ (E.Kind i)
+  turn-kind e h = turn-refused (ap saysRan e) refl (λ most j. rw e at (ran .within most j)) h
 
   module _ {l k : ℕ} (d : r ≡ Done l k) where
     end-of : Finished (f v₀) w l k
     end-of = done-finished (f v₀) w d (ran .answer)
 
-    bounds : RanWithin n (Done l k)
-    bounds = rw d at (ran .within)
+    bounds : (most : ℕ) → NoneLonger most arguments → RanWithin (length s) (roomWith most s) (Done l k)
+    bounds most j = rw d at (ran .within most j)
 
     -- it is the output of any run that finishes
     one-output : {m : Machine} {o : List ℕ} {j : ℕ} → f v₀ ≡ finished m o j → length o ≡ l
@@ -141,16 +153,15 @@ module _ {f : List ℤ → Outcome} {v₀ v : List ℤ} {kept b₀ b : List ℕ}
     pub room-held : length after < l → end ≤ length kept
     room-held h = none-held (room-none h)
 
-    pub turn-room : {b′ : List ℕ} → length after < l → b′ ≡ putAt after 0 (take end kept)
-        → LentAs n (ended (f v₀) (length b₀)) v₀ v b₀ 0 b′ (E.Room l)
-    turn-room {b′} h e =
+    pub turn-room : {b′ : List ℕ} → length after < l → b′ ≡ putAt after 0 (take end kept) → Answered v₀ b′ (E.Room l)
+    turn-room {b′} h e most j =
         let a : b′ ≡ b₀ = e ∙ back (room-none h) in
-        rw (a, T .lasting) (A.answer-room n (length b₀) v₀ b₀ end-of (omega (arith, after-same)) (bounds .0))
+        rw a (A.answer-room (length s) (roomWith most s) (length b₀) v₀ b₀ end-of (omega (arith, after-same)) (bounds most j .0))
 
     -- a run whose output is in the part
-    pub turn-done : l ≤ end → LentAs n (ended (f v₀) (length b₀)) v₀ w b₀ 0 after (E.Done l k)
-    turn-done h =
-        A.answer-given n (length b₀) v₀ b₀ end-of (omega (arith, T .inside)) bounds
+    pub turn-done : l ≤ end → Answered w after (E.Done l k)
+    turn-done h most j =
+        A.answer-given (length s) (roomWith most s) (length b₀) v₀ b₀ end-of (omega (arith, T .inside)) (bounds most j)
         (ap (putMid 0 (end - 0) b) (written (omega (arith, end-of .long, lent)))
         ∙ part-put 0 (end - 0) b (end-of .output) (omega (arith, T .inside, T .same)) (omega (arith, end-of .long))
         ∙ put-over b b₀ (end-of .output) (by-turn (T .turn)))
@@ -160,15 +171,15 @@ module _ {f : List ℤ → Outcome} {v₀ v : List ℤ} {kept b₀ b : List ℕ}
 
         by-turn : Turn (f v₀) b₀ b first end → drop (length (end-of .output)) b ≡ drop (length (end-of .output)) b₀
         by-turn (one e g) = ap (drop (length (end-of .output))) e
-        by-turn (two m o j i g z) =
+        by-turn (two m o k i g z) =
             let x : length (end-of .output) ≡ end = omega (arith, one-output i, end-of .long) in
             rw x z
 
-    -- a run whose output needs a longer part
-    pub turn-again : l ≤ length after → end < l → Trying f v₀ v kept b₀ after first l
+    -- a run whose output needs a longer part, and the variables as they came
+    pub turn-again : l ≤ length after → end < l → Trying f v₀ v₀ kept b₀ after first l
     turn-again h g =
         record {
-          lasting = T .lasting;
+          lasting = refl;
           bytes = T .bytes;
           held = T .held;
           enough = T .enough;

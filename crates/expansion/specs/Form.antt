@@ -23,6 +23,8 @@ classOf (I.Byte b) = Plain
 classOf (I.Argument n) = Plain
 classOf (I.Number b z w) = Plain
 classOf I.Character = Plain
+classOf I.Text = Plain
+classOf I.Length = Plain
 classOf (I.Constant v) = Plain
 classOf (I.Store c) = Plain
 classOf (I.Load c) = Plain
@@ -39,8 +41,8 @@ classOf I.Wrong = Wrong
 unfoldable pub classAt : List ℕ → ℕ → Classed
 classAt s i = record { class = classOf (itemAt s i .item); next = itemAt s i .next }
 
--- which part of an open conditional is being read: the condition, from `%?` on; the body, from `%t` on; or what follows
--- an `%e`, which is the final else or the condition of another body
+-- which part of an open conditional is being read: the condition, from `%?` on; the body, from `%t` on; or what
+-- follows an `%e`, which is the final else or the condition of another body
 pub data Level : Type 0 where
   condition : Level
   body : Level

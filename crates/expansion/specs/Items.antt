@@ -12,7 +12,7 @@ use Rattle.base.specs.If.{if_then_else_}
 use Rattle.base.specs.Scan.{scan}
 use Rattle.expansion.specs.Limits.{constantMost}
 use Rattle.expansion.specs.declared.Item.{Item}
-use Rattle.expansion.specs.declared.Item.the-variants.{Byte, Argument, Number, Character, Constant}
+use Rattle.expansion.specs.declared.Item.the-variants.{Byte, Argument, Number, Character, Text, Length, Constant}
 use Rattle.expansion.specs.declared.Item.the-variants.{Store, Load, Binary, Not, Invert, Increment}
 use Rattle.expansion.specs.declared.Item.the-variants.{If, Then, Else, End, Wrong}
 use Rattle.expansion.specs.declared.Operator.the-variants.{Add, Subtract, Multiply, Divide, Remainder, BitAnd}
@@ -47,7 +47,7 @@ wrong j = lexed Wrong j
 
 unfoldable pub singles : List (ℕ × Item)
 singles =
-    (code "%", Byte (code "%")) ∷ (code "c", Character)
+    (code "%", Byte (code "%")) ∷ (code "c", Character) ∷ (code "s", Text) ∷ (code "l", Length)
     ∷ (code "d", Number Decimal false 0) ∷ (code "o", Number Octal false 0)
     ∷ (code "x", Number SmallHex false 0) ∷ (code "X", Number CapitalHex false 0)
     ∷ (code "+", Binary Add) ∷ (code "-", Binary Subtract) ∷ (code "*", Binary Multiply)

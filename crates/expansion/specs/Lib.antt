@@ -2,5 +2,8 @@ pub mod Limits
 pub mod Items
 pub mod Form
 pub mod Print
+pub mod Values
 pub mod Machine
+pub mod Counting
+pub mod Arguments
 pub mod Expanding

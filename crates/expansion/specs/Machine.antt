@@ -7,7 +7,7 @@ use Prim.Native.Char.{code}
 use lib.Bits.{bitAnd, bitOr, bitXor}
 use lib.Dec.{eqb, leb, ltb}
 use lib.IntN.{ℤ, pos, negsuc}
-use lib.ListN.{length, getD, set, drop, replicate}
+use lib.ListN.{length, getD, set, take, drop, replicate}
 use lib.Signed.{ltZ}
 use mir.Syntax.{w32}
 use mir.Val.{ofZ, toZ}
@@ -25,20 +25,17 @@ use Rattle.expansion.specs.declared.Class.the-variants as C
 use Rattle.expansion.specs.Items.{itemAt}
 use Rattle.expansion.specs.Form.{classAt}
 use Rattle.expansion.specs.Print.{printed}
+use Rattle.expansion.specs.Values.{Value, number, text, noValue, isText, numberIn, textIn}
 
--- what a stack place holds
-abbrev pub Value : Type 0
-Value = ℤ
-
--- the stack, its top first; the nine arguments; a to z; A to Z
+-- the stack, its top first; the nine arguments; a to z; A to Z, which never hold texts
 pub record Machine : Type 0 where
   pub stack : List Value
-  pub arguments : List ℤ
+  pub arguments : List Value
   pub locals : List ℤ
   pub lasting : List ℤ
 
 -- "a to z start at 0 in each call"
-abbrev pub started : List ℤ → List ℤ → Machine
+abbrev pub started : List Value → List ℤ → Machine
 started arguments lasting =
     record { stack = []; arguments = arguments; locals = replicate 26 (pos 0); lasting = lasting }
 
@@ -95,9 +92,14 @@ stored m c v =
       lasting = m .lasting;
     }
 
+-- "`%i` leaves a text among the first two as it is"
+unfoldable pub raised : Value → Value
+raised (number v) = number (add v (pos 1))
+raised (text bytes) = text bytes
+
 -- "`%i` adds 1 to the first two arguments"
-unfoldable pub incremented : List ℤ → List ℤ
-incremented xs = set (set xs 0 (add (getD xs 0 (pos 0)) (pos 1))) 1 (add (getD xs 1 (pos 0)) (pos 1))
+unfoldable pub incremented : List Value → List Value
+incremented xs = set (set xs 0 (raised (getD xs 0 noValue))) 1 (raised (getD xs 1 noValue))
 
 -- ---- taking an item
 
@@ -107,6 +109,8 @@ arity (I.Byte b) = 0
 arity (I.Argument n) = 0
 arity (I.Number b z w) = 1
 arity I.Character = 1
+arity I.Text = 1
+arity I.Length = 1
 arity (I.Constant v) = 0
 arity (I.Store c) = 1
 arity (I.Load c) = 0
@@ -119,6 +123,32 @@ arity I.Then = 1
 arity I.Else = 0
 arity I.End = 0
 arity I.Wrong = 0
+
+-- whether what an item pops is to be a text
+unfoldable pub popsText : Item → Bool
+popsText (I.Byte b) = false
+popsText (I.Argument n) = false
+popsText (I.Number b z w) = false
+popsText I.Character = false
+popsText I.Text = true
+popsText I.Length = true
+popsText (I.Constant v) = false
+popsText (I.Store c) = false
+popsText (I.Load c) = false
+popsText (I.Binary o) = false
+popsText I.Not = false
+popsText I.Invert = false
+popsText I.Increment = false
+popsText I.If = false
+popsText I.Then = false
+popsText I.Else = false
+popsText I.End = false
+popsText I.Wrong = false
+
+-- "`%s` or `%l` pops a number, or any other item pops a text": one of the popped values is of the other kind
+unfoldable pub otherKind : Item → List Value → Bool
+otherKind k [] = false
+otherKind k (v ∷ vs) = (if popsText k then not (isText v) else isText v) || otherKind k vs
 
 -- what an item does once its values are popped
 pub data Effect : Type 0 where
@@ -141,35 +171,38 @@ printedBy toEnd = []
 -- "The second value popped is the left operand": b is the first popped, a the second
 unfoldable pub effect : Item → Machine → Value → Value → Effect
 effect (I.Byte c) m a b = prints (c ∷ [])
-effect (I.Argument n) m a b = pushes (getD (m .arguments) n (pos 0))
-effect (I.Number base zeros width) m a b = prints (printed base zeros width b)
-effect I.Character m a b = prints (character b ∷ [])
-effect (I.Constant v) m a b = pushes v
-effect (I.Store c) m a b = stores c b
-effect (I.Load c) m a b = pushes (loaded m c)
-effect (I.Binary o) m a b = pushes (applied o a b)
-effect I.Not m a b = pushes (truth (isZero b))
-effect I.Invert m a b = pushes (inverted b)
+effect (I.Argument n) m a b = pushes (getD (m .arguments) n noValue)
+effect (I.Number base zeros width) m a b = prints (printed base zeros width (numberIn b))
+effect I.Character m a b = prints (character (numberIn b) ∷ [])
+effect I.Text m a b = prints (textIn b)
+effect I.Length m a b = pushes (number (pos (length (textIn b))))
+effect (I.Constant v) m a b = pushes (number v)
+effect (I.Store c) m a b = stores c (numberIn b)
+effect (I.Load c) m a b = pushes (number (loaded m c))
+effect (I.Binary o) m a b = pushes (number (applied o (numberIn a) (numberIn b)))
+effect I.Not m a b = pushes (number (truth (isZero (numberIn b))))
+effect I.Invert m a b = pushes (number (inverted (numberIn b)))
 effect I.Increment m a b = increments
 effect I.If m a b = prints []
-effect I.Then m a b = if isZero b then toElse else prints []
+effect I.Then m a b = if isZero (numberIn b) then toElse else prints []
 effect I.Else m a b = toEnd
 effect I.End m a b = prints []
 effect I.Wrong m a b = prints []
 
 -- what taking an item comes to: go on behind it, with bytes printed; go past the next `%e` of this level or else its
--- `%;`; go past its `%;`; or the stack is empty, or full
+-- `%;`; go past its `%;`; or the stack is empty, or full, or a popped value is of the other kind
 pub data Taken : Type 0 where
   goesOn : Machine → List ℕ → Taken
   goesToElse : Machine → Taken
   goesToEnd : Machine → Taken
   empty : Taken
   full : Taken
+  mismatched : Taken
 
 abbrev pub withStack : Machine → List Value → Machine
 withStack m st = record { stack = st; arguments = m .arguments; locals = m .locals; lasting = m .lasting }
 
-abbrev pub withArguments : Machine → List ℤ → Machine
+abbrev pub withArguments : Machine → List Value → Machine
 withArguments m xs = record { stack = m .stack; arguments = xs; locals = m .locals; lasting = m .lasting }
 
 unfoldable pub performed : Effect → Machine → Taken
@@ -180,12 +213,13 @@ performed increments m = goesOn (withArguments m (incremented (m .arguments))) [
 performed toElse m = goesToElse m
 performed toEnd m = goesToEnd m
 
--- pop, then do; 15 is judged before 16
+-- pop, then do: "15 is judged first within one item", then 21, then 16
 unfoldable pub taking : Item → Machine → Taken
 taking k m =
-    let a : Value = getD (m .stack) 1 (pos 0) in
-    let b : Value = getD (m .stack) 0 (pos 0) in
+    let a : Value = getD (m .stack) 1 noValue in
+    let b : Value = getD (m .stack) 0 noValue in
     if ltb (length (m .stack)) (arity k) then empty
+    else if otherKind k (take (arity k) (m .stack)) then mismatched
     else performed (effect k m a b) (withStack m (drop (arity k) (m .stack)))
 
 -- ---- passing over items
@@ -238,9 +272,10 @@ running (suc k) s i m out n =
         | goesToEnd m′ ↦ running k s (passed (length s) false s (itemAt s i .next) 0) m′ out (n + 1)
         | empty ↦ failed 15 i
         | full ↦ failed 16 i
+        | mismatched ↦ failed 21 i
       ]
       | false ↦ finished m out n
     ]
 
-unfoldable pub run : List ℕ → List ℤ → List ℤ → Outcome
+unfoldable pub run : List ℕ → List Value → List ℤ → Outcome
 run s arguments lasting = running (length s) s 0 (started arguments lasting) [] 0

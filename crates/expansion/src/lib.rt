@@ -35,6 +35,10 @@ pub enum Item {
     Number { base: Base, zero: bool, width: u8 },
     // %c
     Character,
+    // %s
+    Text,
+    // %l
+    Length,
     // %'b' and %{digits}
     Constant(i32),
     // %P and %g with a letter
@@ -84,6 +88,17 @@ pub enum Form {
     Wrong(usize),
 }
 
+// A number, or a text: where it starts in what was lent, and its length (document 02, 2026-07).
+pub enum Operand {
+    Number(i32),
+    Text { start: usize, length: usize },
+}
+
+// One of the nine arguments.
+pub struct Argument {
+    pub operand: Operand,
+}
+
 // The lasting variables A to Z.
 pub struct Lasting {
     pub values: [i32; 26],
@@ -93,9 +108,9 @@ pub struct Lasting {
 pub enum Expansion {
     // the output's length, and the steps
     Done { length: usize, steps: usize },
-    // 17: the output place is above the buffer's length
+    // 17: the output place is above the buffer's length, or a text doesn't lie in what was lent
     Place,
-    // 1: the string is longer than 1,000 bytes
+    // 1: the string, or a text, is longer than 1,000 bytes
     Length,
     // 14: malformed; the place of the first wrong item
     Malformed(usize),
@@ -103,6 +118,8 @@ pub enum Expansion {
     Empty(usize),
     // 16: stack full; the item's place
     Full(usize),
+    // 21: a value of the other kind is popped; the item's place
+    Kind(usize),
     // 8: too little room; the output's length
     Room(usize),
 }

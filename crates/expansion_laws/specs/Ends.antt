@@ -8,6 +8,7 @@ use native.Mathlib.Omega.{arith}
 use lib.IntN.{ℤ}
 use lib.ListN.{length}
 use Rattle.base.proofs.IfLaws.{below-or}
+use Rattle.expansion.specs.Values.{Value}
 use Rattle.expansion.specs.Machine.{Outcome, finished, failed, run}
 use Rattle.expansion_laws.specs.Steps.{Point, startOf, Step, leads, refuses, step}
 use Rattle.expansion_laws.specs.Steps.{Reaches, here, onward, EndsAt, Ends}
@@ -47,7 +48,7 @@ rest-ends s p y = (
 )
 
 -- a run has an outcome exactly if its steps, from the start on, end with it
-pub run-ends : (s : List ℕ) (arguments lasting : List ℤ) (y : Outcome)
+pub run-ends : (s : List ℕ) (arguments : List Value) (lasting : List ℤ) (y : Outcome)
     → run s arguments lasting ≡ y ↔ Ends s (startOf arguments lasting) y
 run-ends s arguments lasting y = rw (run-start s arguments lasting) (rest-ends s (startOf arguments lasting) y)
 

@@ -10,8 +10,9 @@ use lib.ListN.{length}
 use borrow.Author.Tests.{lt-ltb, le-ltb}
 use Rattle.base.proofs.IfLaws.{below-or}
 use Rattle.expansion.specs.Items.{itemAt}
+use Rattle.expansion.specs.Values.{Value}
 use Rattle.expansion.specs.Machine.{started, Outcome, finished, failed, running, run}
-use Rattle.expansion.specs.Machine.{Taken, goesOn, goesToElse, goesToEnd, empty, full, taking}
+use Rattle.expansion.specs.Machine.{Taken, goesOn, goesToElse, goesToEnd, empty, full, mismatched, taking}
 use Rattle.item_parts.proofs.Laws.{item-on}
 use Rattle.expansion_laws.specs.Passes.{passed-on}
 use Rattle.expansion_laws.specs.Steps.{Point, startOf, Step, leads, refuses, stepBy, step}
@@ -54,6 +55,7 @@ module _ (s : List ℕ) (p q : Point) (h : p .place < length s) (e : step s p �
       by-taken (goesToEnd m) = omega (arith, on, passed-on false s next 0)
       by-taken empty = omega arith
       by-taken full = omega arith
+      by-taken mismatched = omega arith
 
   pub step-counts : q .steps ≡ p .steps + 1
   unfolding step
@@ -66,6 +68,7 @@ module _ (s : List ℕ) (p q : Point) (h : p .place < length s) (e : step s p �
       by-taken (goesToEnd m) = refl
       by-taken empty = refl
       by-taken full = refl
+      by-taken mismatched = refl
 
 -- ---- steps with a count
 
@@ -88,6 +91,7 @@ running-step k s p h = by-taken (taking (itemAt s (p .place) .item) (p .machine)
     by-taken (goesToEnd m) e = rw (running, lt-ltb (p .place) (length s) h, e, append-nil (p .output))
     by-taken empty e = rw (running, lt-ltb (p .place) (length s) h, e)
     by-taken full e = rw (running, lt-ltb (p .place) (length s) h, e)
+    by-taken mismatched e = rw (running, lt-ltb (p .place) (length s) h, e)
 
 running-ended : (k : ℕ) (s : List ℕ) (p : Point) → length s ≤ p .place
     → runningFrom k s p ≡ finished (p .machine) (p .output) (p .steps)
@@ -122,7 +126,7 @@ module _ (s : List ℕ) where
   unfolding runOfRest
   running-enough k p h = running-same k (length s - p .place) s p (omega arith) (omega arith)
 
-  module _ (arguments lasting : List ℤ) where
+  module _ (arguments : List Value) (lasting : List ℤ) where
     pub run-start : run s arguments lasting ≡ runOfRest s (startOf arguments lasting)
     unfolding run
     run-start = running-enough (length s) (startOf arguments lasting) (omega arith)

@@ -7,8 +7,9 @@ use Prim.Native.Nat.{ℕ, _+_, _≤_, _<_}
 use lib.IntN.{ℤ}
 use lib.ListN.{length}
 use Rattle.expansion.specs.Items.{itemAt}
+use Rattle.expansion.specs.Values.{Value}
 use Rattle.expansion.specs.Machine.{Machine, started, Outcome, finished, failed}
-use Rattle.expansion.specs.Machine.{Taken, goesOn, goesToElse, goesToEnd, empty, full, taking}
+use Rattle.expansion.specs.Machine.{Taken, goesOn, goesToElse, goesToEnd, empty, full, mismatched, taking}
 use Rattle.expansion_laws.specs.Passes.{passedTo}
 
 -- how far a run has come: the place of the next item, the machine, the bytes printed and the items taken
@@ -18,7 +19,7 @@ pub record Point : Type 0 where
   pub output : List ℕ
   pub steps : ℕ
 
-abbrev pub startOf : List ℤ → List ℤ → Point
+abbrev pub startOf : List Value → List ℤ → Point
 startOf arguments lasting = record { place = 0; machine = started arguments lasting; output = []; steps = 0 }
 
 -- one item later: at place i, with the machine m and these bytes more
@@ -37,6 +38,7 @@ stepBy s p next (goesToElse m) = leads (further p (passedTo true s next 0) m [])
 stepBy s p next (goesToEnd m) = leads (further p (passedTo false s next 0) m [])
 stepBy s p next empty = refuses 15
 stepBy s p next full = refuses 16
+stepBy s p next mismatched = refuses 21
 
 unfoldable pub step : List ℕ → Point → Step
 step s p = stepBy s p (itemAt s (p .place) .next) (taking (itemAt s (p .place) .item) (p .machine))

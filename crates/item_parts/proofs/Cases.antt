@@ -22,8 +22,9 @@ use Rattle.expansion.specs.declared.Item.{Item}
 use Rattle.expansion.specs.declared.Item.the-variants.{Constant, Wrong}
 use Rattle.expansion.specs.declared.Lexed.{Lexed}
 use Rattle.expansion.specs.Limits.{constantMost}
-use Rattle.expansion.specs.Items.{byteAt, within, isDigit, isNonzero, lexed, wrong, singles, found, argumentAt, quotedAt, decimal, digitsEnd, bracedAt, storeAt, loadAt, widthAt, percentAt}
+use Rattle.expansion.specs.Items.{byteAt, within, isDigit, isNonzero, lexed, wrong, singles, found, argumentAt, quotedAt, decimal, digitsEnd, bracedAt, storeAt, loadAt, widthAt, percentAt, itemAt}
 use Rattle.item_parts.specs.Classes.{otherAt}
+use Rattle.item_parts.specs.Right.{ArgumentTested}
 
 pub within-true : (a b x : ℕ) → within a b x ≡ true → (a ≤ x) × (x ≤ b)
 within-true a b x e = (leb-true a x (and-left (leb a x) (leb x b) e), leb-true x b (and-right (leb a x) (leb x b) e))
@@ -169,3 +170,26 @@ braced-past s j i v h = braced-other s j i v (scan-end (λ k. isDigit (byteAt s 
 pub braced-first : (s : List ℕ) (j : ℕ) → isDigit (byteAt s (j + 1)) ≡ false → bracedAt s j ≡ wrong j
 unfolding bracedAt
 braced-first s j d = rw d
+
+-- ---- an argument that is tested
+
+-- `%` and the byte x stand at i
+item-behind : (s : List ℕ) (i x : ℕ) → byteAt s i ≡ 37 → byteAt s (i + 1) ≡ x → itemAt s i ≡ behind x s (i + 1)
+unfolding itemAt
+item-behind s i x p q = rw p (sym (percent-byte s (i + 1) refl x q))
+
+-- `%p`, a digit and `%t`
+pub argument-tested : (s : List ℕ) (i : ℕ) → i + 5 ≤ length s → byteAt s i ≡ 37 → byteAt s (i + 1) ≡ 112 → isNonzero (byteAt s (i + 2)) ≡ true
+    → byteAt s (i + 3) ≡ 37 → byteAt s (i + 4) ≡ 116 → ArgumentTested s i
+unfolding argumentAt singles found
+argument-tested s i h p q d p′ t =
+    let n : i + 1 + 1 ≡ i + 2 = omega arith in
+    let m : i + 1 + 2 ≡ i + 3 = omega arith in
+    let n′ : i + 3 + 1 ≡ i + 4 = omega arith in
+    let m′ : i + 4 + 1 ≡ i + 5 = omega arith in
+    record {
+      argument = item-behind s i 112 p q ∙ rw (n, d, m);
+      digit = within-true 49 57 (byteAt s (i + 2)) d;
+      test = item-behind s (i + 3) 116 p′ (rw n′ t) ∙ rw (n′, m′);
+      inside = h;
+    }

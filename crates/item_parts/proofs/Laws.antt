@@ -27,6 +27,8 @@ Holds s (I.Byte b) = 0 < b
 Holds s (I.Argument n) = n < 9
 Holds s (I.Number b z w) = w ≤ 99
 Holds s I.Character = Unit
+Holds s I.Text = Unit
+Holds s I.Length = Unit
 Holds s (I.Constant v) = (n : ℕ) × (v ≡ pos n) × (((k : ℕ) → byteAt s k ≤ 255) → n ≤ constantMost)
 Holds s (I.Store c) = isLetter c ≡ true
 Holds s (I.Load c) = isLetter c ≡ true
@@ -108,7 +110,7 @@ single-fair s j h =
       on = omega arith;
       near = omega arith;
       inside = below-or j (length s) (λ l. inr (omega arith)) (λ l. inl (rw (List·getD-eq-default s 0 l)));
-      holds = found-holds s singles (byteAt s j) (omega arith, (tt, (omega arith, (omega arith, (omega arith, (omega arith, (tt, (tt, (tt, (tt, (tt, (tt, (tt, (tt, (tt, (tt, (tt, (tt, (tt, (tt, (tt, (tt, (tt, (tt, (tt, (tt, tt))))))))))))))))))))))))));
+      holds = found-holds s singles (byteAt s j) (omega arith, (tt, (tt, (tt, (omega arith, (omega arith, (omega arith, (omega arith, (tt, (tt, (tt, (tt, (tt, (tt, (tt, (tt, (tt, (tt, (tt, (tt, (tt, (tt, (tt, (tt, (tt, (tt, (tt, (tt, tt))))))))))))))))))))))))))));
     }
 
 module _ (s : List ℕ) (j : ℕ) (h : j ≤ length s) where

@@ -1,10 +1,12 @@
-// The bytes of items: digits, letters, constants in braces and in quotes (document 01: Expansion). Proved: each
-// function is its definition of expansion/specs or of specs/. Assumed: nothing.
+// The bytes of items: digits, letters, constants in braces and in quotes, an argument that is tested (document 01:
+// Expansion). Proved: each function is its definition of expansion/specs or of specs/. Assumed: nothing.
 ghost use mathlib.Core.Path.{_≡_};
+ghost use mathlib.Core.Bool.{true};
 ghost use Prim.Native.Nat.{_+_, _≤_, _<_};
 ghost use lib.ListN.{length};
 ghost use Rattle.expansion.specs.Items.{byteAt, isDigit, isNonzero, isLetter, bracedAt};
 ghost use Rattle.item_parts.specs.Classes.{quoted, lexedConstant};
+ghost use Rattle.item_parts.specs.Right.{ArgumentTested};
 
 // The largest constant.
 const CONSTANT_MOST: u64 = 2147483647;
@@ -82,4 +84,27 @@ pub fn is_quoted(s: &[u8], j: usize) -> bool
         return false;
     }
     byte_at(s, j + 2) == 39
+}
+
+// Whether `%p`, a digit from 1 on and `%t` stand at a place. The last byte tells most often that they don't.
+pub fn tests_argument(s: &[u8], i: usize) -> bool
+    requires { ⌜ i ≤ length (now s) ⌝ }
+    ensures { λ r. ⌜ (r ≡ true → ArgumentTested (now (s .entry)) i) ⌝ }
+{
+    if s.len() < i + 5 {
+        return false;
+    }
+    if s[i + 4] != b't' {
+        return false;
+    }
+    if s[i] != b'%' {
+        return false;
+    }
+    if s[i + 1] != b'p' {
+        return false;
+    }
+    if s[i + 3] != b'%' {
+        return false;
+    }
+    is_nonzero(s[i + 2])
 }

@@ -2,7 +2,7 @@
 -- Assumes nothing.
 use mathlib.Core.Path.{_≡_, refl, sym, ap, _∙_}
 use mathlib.Core.Bool.{Bool, true, false, _&&_, not}
-use mathlib.Core.List.{List, [], _∷_, map}
+use mathlib.Core.List.{List, [], _∷_, _++_, map}
 use Prim.Native.Nat.{ℕ, _+_, _-_, _*_, _≤_, _<_}
 use native.Mathlib.Omega.{arith}
 use lib.Dec.{eqb, leb}
@@ -19,11 +19,11 @@ use Rattle.expansion.specs.declared.Lexed.{Lexed}
 use Rattle.expansion.specs.Limits.{constantMost}
 use Rattle.expansion.specs.Items.{byteAt, isDigit, isNonzero, isLetter, lexed, wrong, singles, found, argumentAt, quotedAt, decimal, digitsEnd, bracedAt, storeAt, loadAt, formatAt, widthAt, percentAt, itemAt}
 use Rattle.item_parts.specs.Classes.{otherAt}
-use Rattle.item_parts.specs.Right.{RightItem, Simple}
-use Rattle.item_parts.proofs.Cases.{within-true, NoneOf, percent-other, bracedFrom, braced-step, braced-large, braced-close, braced-other, braced-stop, braced-past, braced-first}
+use Rattle.item_parts.specs.Right.{RightItem, ArgumentTested}
+use Rattle.item_parts.proofs.Cases.{within-true, NoneOf, percent-byte, percent-other, bracedFrom, braced-step, braced-large, braced-close, braced-other, braced-stop, braced-past, braced-first}
 use Rattle.items.specs.declared.RunItem.{RunItem}
-use Rattle.items.specs.Parts.{Right, otherItem, LeftToOther}
-use Rattle.items.specs.Reading.{ReadAs}
+use Rattle.items.specs.Parts.{Right, readItem, otherItem, IfAt, LeftToOther}
+use Rattle.items.specs.Reading.{lexedItem, TestAt, Beside, ReadAs}
 
 -- a test that can't fail
 is-true : (b : Bool) → (b ≡ false → ⊥) → b ≡ true
@@ -173,73 +173,99 @@ none-map A B f [] x h = f h
 none-map A B f (ks ∷ kss) x h =
     none-map (A × (OneOf ks x → ⊥)) (B × (OneOf ks x → ⊥)) (λ p. (f (p .0), p .1)) kss x h
 
--- the bytes that `other_at` names: P, g, and those of singles up to ~
+-- the bytes that `other_at` names: P, g, and those of singles up to ~ but for s and l
 abbrev pub otherKeys : List (List ℕ)
-otherKeys = (80 ∷ []) ∷ (103 ∷ []) ∷ map (λ (p : ℕ × Item). p .0 ∷ []) (take 21 singles)
+otherKeys =
+    (80 ∷ []) ∷ (103 ∷ []) ∷ map (λ (p : ℕ × Item). p .0 ∷ []) (take 2 singles ++ take 19 (drop 4 singles))
 
 pub percent-left : (s : List ℕ) (j : ℕ) → LeftToOther (byteAt s j) → NoneOf Unit otherKeys (byteAt s j) → otherAt s j ≡ percentAt s j
 unfolding singles
 percent-left s j n h =
     percent-other
-    ((112 ∷ []) ∷ (39 ∷ []) ∷ (123 ∷ []) ∷ (63 ∷ []) ∷ (116 ∷ []) ∷ (101 ∷ []) ∷ (59 ∷ []) ∷ (105 ∷ []) ∷ otherKeys)
+    ((112 ∷ []) ∷ (39 ∷ []) ∷ (123 ∷ []) ∷ (63 ∷ []) ∷ (116 ∷ []) ∷ (101 ∷ []) ∷ (59 ∷ []) ∷ (105 ∷ []) ∷ (115 ∷ []) ∷ (108 ∷ []) ∷ otherKeys)
     s j refl
-    (none-map Unit _ (λ _. ((((((((tt, n .0), n .1 .0), n .1 .1 .0), n .1 .1 .1 .0), n .1 .1 .1 .1 .0), n .1 .1 .1 .1 .1 .0), n .1 .1 .1 .1 .1 .1 .0), n .1 .1 .1 .1 .1 .1 .1 .0)) otherKeys (byteAt s j) h)
+    (none-map Unit _ (λ _. ((((((((((tt, n .0), n .1 .0), n .1 .1 .0), n .1 .1 .1 .0), n .1 .1 .1 .1 .0), n .1 .1 .1 .1 .1 .0), n .1 .1 .1 .1 .1 .1 .0), n .1 .1 .1 .1 .1 .1 .1 .0), n .1 .1 .1 .1 .1 .1 .1 .1 .0), n .1 .1 .1 .1 .1 .1 .1 .1 .1 .0)) otherKeys (byteAt s j) h)
     ((refl, (refl, (refl, (refl, (refl, tt))))), refl)
 
--- ---- what `braced_at` and `other_at` give needs no more than its values and the variables
+-- ---- what `braced_at` and `other_at` give: a number, a constant, or an item that the run leaves to `machine::take`
 
-abbrev SimpleAt : Lexed → Type 0
-SimpleAt l = Simple (l .item)
+read-item : (i : ℕ) (k : Item) (n : ℕ) → lexedItem i (readItem k n) ≡ lexed k n
+read-item i (I.Byte b) n = refl
+read-item i (I.Argument a) n = refl
+read-item i (I.Number b z w) n = refl
+read-item i I.Character n = refl
+read-item i I.Text n = refl
+read-item i I.Length n = refl
+read-item i (I.Constant v) n = refl
+read-item i (I.Store c) n = refl
+read-item i (I.Load c) n = refl
+read-item i (I.Binary o) n = refl
+read-item i I.Not n = refl
+read-item i I.Invert n = refl
+read-item i I.Increment n = refl
+read-item i I.If n = refl
+read-item i I.Then n = refl
+read-item i I.Else n = refl
+read-item i I.End n = refl
+read-item i I.Wrong n = refl
 
-format-simple : (s : List ℕ) (k : ℕ) (z : Bool) (w : ℕ) → SimpleAt (formatAt s k z w)
-unfolding formatAt
-format-simple s k z w =
-    if-both SimpleAt (eqb (byteAt s k) 100) (λ _. tt)
-    (λ _. if-both SimpleAt (eqb (byteAt s k) 111) (λ _. tt)
-    (λ _. if-both SimpleAt (eqb (byteAt s k) 120) (λ _. tt)
-    (λ _. if-both SimpleAt (eqb (byteAt s k) 88) (λ _. tt) (λ _. tt))))
+-- s and i are those of the item that is read
+module _ (s : List ℕ) (i : ℕ) where
+  abbrev pub KnownAt : Lexed → Type 0
+  KnownAt l = Beside s i (otherItem l)
 
-width-simple : (s : List ℕ) (k : ℕ) (z : Bool) → SimpleAt (widthAt s k z)
-unfolding widthAt
-width-simple s k z =
-    if-both SimpleAt (not (isNonzero (byteAt s k))) (λ _. tt)
-    (λ _. if-both SimpleAt (isDigit (byteAt s (k + 1))) (λ _. format-simple s (k + 2) z _) (λ _. format-simple s (k + 1) z _))
+  format-known : (k : ℕ) (z : Bool) (w : ℕ) → KnownAt (formatAt s k z w)
+  unfolding formatAt
+  format-known k z w =
+      if-both KnownAt (eqb (byteAt s k) 100) (λ _. tt)
+      (λ _. if-both KnownAt (eqb (byteAt s k) 111) (λ _. tt)
+      (λ _. if-both KnownAt (eqb (byteAt s k) 120) (λ _. tt)
+      (λ _. if-both KnownAt (eqb (byteAt s k) 88) (λ _. tt) (λ _. tt))))
 
-variable-simple : (s : List ℕ) (j : ℕ) → SimpleAt (storeAt s j) × SimpleAt (loadAt s j)
-unfolding storeAt loadAt
-variable-simple s j =
-    (if-both SimpleAt (isLetter (byteAt s (j + 1))) (λ _. tt) (λ _. tt), if-both SimpleAt (isLetter (byteAt s (j + 1))) (λ _. tt) (λ _. tt))
+  width-known : (k : ℕ) (z : Bool) → KnownAt (widthAt s k z)
+  unfolding widthAt
+  width-known k z =
+      if-both KnownAt (not (isNonzero (byteAt s k))) (λ _. tt)
+      (λ _. if-both KnownAt (isDigit (byteAt s (k + 1))) (λ _. format-known (k + 2) z _) (λ _. format-known (k + 1) z _))
 
-pub braced-simple : (s : List ℕ) (j : ℕ) → SimpleAt (bracedAt s j)
-unfolding bracedAt
-braced-simple s j =
-    let e : ℕ = digitsEnd s (j + 1) in
-    if-both SimpleAt (isDigit (byteAt s (j + 1)) && (eqb (byteAt s e) 125 && leb (decimal 0 (take (e - (j + 1)) (drop (j + 1) s))) constantMost)) (λ _. tt) (λ _. tt)
+  variable-known : (j : ℕ) → KnownAt (storeAt s j) × KnownAt (loadAt s j)
+  unfolding storeAt loadAt
+  variable-known j =
+      (if-both KnownAt (isLetter (byteAt s (j + 1))) (λ _. tt) (λ _. tt), if-both KnownAt (isLetter (byteAt s (j + 1))) (λ _. tt) (λ _. tt))
 
-found-simple : (ps : List (ℕ × Item)) (x : ℕ) → Each (λ (p : ℕ × Item). x ≡ p .0 → Simple (p .1)) ps → Simple (found ps x)
-unfolding found
-found-simple [] x h = tt
-found-simple (p ∷ ps) x h =
-    if-both Simple (eqb x (p .0)) (λ e. h .0 (eqb-true x (p .0) e)) (λ _. found-simple ps x (h .1))
+  pub braced-known : (j : ℕ) → KnownAt (bracedAt s j)
+  unfolding bracedAt
+  braced-known j =
+      let e : ℕ = digitsEnd s (j + 1) in
+      if-both KnownAt (isDigit (byteAt s (j + 1)) && (eqb (byteAt s e) 125 && leb (decimal 0 (take (e - (j + 1)) (drop (j + 1) s))) constantMost)) (λ _. tt) (λ _. tt)
 
--- a byte of singles other than i, t and e
-singles-simple : (x : ℕ) → LeftToOther x → Each (λ (p : ℕ × Item). x ≡ p .0 → Simple (p .1)) singles
-unfolding singles
-singles-simple x n =
-    ((λ _. tt), ((λ _. tt), ((λ _. tt), ((λ _. tt), ((λ _. tt), ((λ _. tt), ((λ _. tt), ((λ _. tt), ((λ _. tt), ((λ _. tt), ((λ _. tt), ((λ _. tt), ((λ _. tt), ((λ _. tt), ((λ _. tt), ((λ _. tt), ((λ _. tt), ((λ _. tt), ((λ _. tt), ((λ _. tt), ((λ _. tt), ((λ e. absurd (n .1 .1 .1 .1 .1 .1 .1 .0 e)), ((λ _. tt), ((λ e. absurd (n .1 .1 .1 .1 .0 e)), ((λ e. absurd (n .1 .1 .1 .1 .1 .0 e)), ((λ _. tt), tt))))))))))))))))))))))))))
+  found-known : (n : ℕ) (ps : List (ℕ × Item)) (x : ℕ) → Each (λ (p : ℕ × Item). x ≡ p .0 → KnownAt (lexed (p .1) n)) ps → KnownAt (lexed (found ps x) n)
+  unfolding found
+  found-known n [] x h = tt
+  found-known n (p ∷ ps) x h =
+      if-both (λ k. KnownAt (lexed k n)) (eqb x (p .0)) (λ e. h .0 (eqb-true x (p .0) e)) (λ _. found-known n ps x (h .1))
 
-pub percent-simple : (s : List ℕ) (j : ℕ) → LeftToOther (byteAt s j) → SimpleAt (percentAt s j)
-unfolding percentAt
-percent-simple s j n =
-    let x : ℕ = byteAt s j in
-    if-both SimpleAt (eqb x 112) (λ e. absurd (n .0 (eqb-true x 112 e)))
-    (λ _. if-both SimpleAt (eqb x 39) (λ e. absurd (n .1 .0 (eqb-true x 39 e)))
-    (λ _. if-both SimpleAt (eqb x 123) (λ e. absurd (n .1 .1 .0 (eqb-true x 123 e)))
-    (λ _. if-both SimpleAt (eqb x 80) (λ _. variable-simple s j .0)
-    (λ _. if-both SimpleAt (eqb x 103) (λ _. variable-simple s j .1)
-    (λ _. if-both SimpleAt (eqb x 48) (λ _. width-simple s (j + 1) true)
-    (λ _. if-both SimpleAt (isNonzero x) (λ _. width-simple s j false)
-    (λ _. found-simple singles x (singles-simple x n))))))))
+  -- a byte of singles other than s, l, i, t and e
+  singles-known : (n x : ℕ) → LeftToOther x → Each (λ (p : ℕ × Item). x ≡ p .0 → KnownAt (lexed (p .1) n)) singles
+  unfolding singles
+  singles-known n x h =
+      ((λ _. tt), ((λ _. tt), ((λ e. absurd (h .1 .1 .1 .1 .1 .1 .1 .1 .0 e)), ((λ e. absurd (h .1 .1 .1 .1 .1 .1 .1 .1 .1 .0 e)), ((λ _. tt), ((λ _. tt), ((λ _. tt), ((λ _. tt), ((λ _. tt), ((λ _. tt), ((λ _. tt), ((λ _. tt), ((λ _. tt), ((λ _. tt), ((λ _. tt), ((λ _. tt), ((λ _. tt), ((λ _. tt), ((λ _. tt), ((λ _. tt), ((λ _. tt), ((λ _. tt), ((λ _. tt), ((λ e. absurd (h .1 .1 .1 .1 .1 .1 .1 .0 e)), ((λ _. tt), ((λ e. absurd (h .1 .1 .1 .1 .0 e)), ((λ e. absurd (h .1 .1 .1 .1 .1 .0 e)), ((λ _. tt), tt))))))))))))))))))))))))))))
+
+  pub percent-known : (j : ℕ) → LeftToOther (byteAt s j) → KnownAt (percentAt s j)
+  unfolding percentAt
+  percent-known j n =
+      let x : ℕ = byteAt s j in
+      if-both KnownAt (eqb x 112) (λ e. absurd (n .0 (eqb-true x 112 e)))
+      (λ _. if-both KnownAt (eqb x 39) (λ e. absurd (n .1 .0 (eqb-true x 39 e)))
+      (λ _. if-both KnownAt (eqb x 123) (λ e. absurd (n .1 .1 .0 (eqb-true x 123 e)))
+      (λ _. if-both KnownAt (eqb x 80) (λ _. variable-known j .0)
+      (λ _. if-both KnownAt (eqb x 103) (λ _. variable-known j .1)
+      (λ _. if-both KnownAt (eqb x 48) (λ _. width-known (j + 1) true)
+      (λ _. if-both KnownAt (isNonzero x) (λ _. width-known j false)
+      (λ _. found-known (j + 1) singles x (singles-known (j + 1) x n))))))))
+
+  pub read-other : {r : RunItem} {l : Lexed} → r ≡ otherItem l → l ≡ itemAt s i → KnownAt l → ReadAs s i r
+  read-other {r} {l} e q h = rw e (read-item i (l .item) (l .next) ∙ q, h)
 
 -- ---- the item at i
 
@@ -252,9 +278,6 @@ module _ (s : List ℕ) (i : ℕ) (r : RightItem s i) where
   pub item-percent : byteAt s i ≡ 37 → percentAt s (i + 1) ≡ itemAt s i
   unfolding itemAt
   item-percent e = rw e
-
-pub read-other : (s : List ℕ) (i : ℕ) {r : RunItem} {l : Lexed} → r ≡ otherItem l → l ≡ itemAt s i → SimpleAt l → ReadAs s i r
-read-other s i e q h = rw e (q, h)
 
 -- the places behind a `%` at i
 second : (i : ℕ) → i + 1 + 1 ≡ i + 2
@@ -303,3 +326,35 @@ module _ (s : List ℕ) (i : ℕ) where
   pub quoted-read : Right (quotedAt s (i + 1)) → lexed (I.Constant (pos (byteAt s (i + 2)))) (i + 4) ≡ quotedAt s (i + 1)
   unfolding quotedAt
   quoted-read r = rw (second i, third i, fourth i, quoted-test r)
+
+-- ---- the `%?` at i
+
+module _ (s : List ℕ) (i : ℕ) (h : IfAt s i) where
+  pub if-inside : i + 2 ≤ length s
+  if-inside =
+      below-or (i + 1) (length s) (λ l. omega arith)
+      (λ l. let e : byteAt s (i + 1) ≡ 0 = List·getD-eq-default s 0 l in
+      let q : byteAt s (i + 1) ≡ 63 = h .question in
+      absurd (let z : ⊥ = omega arith in z))
+
+  pub if-read : lexed I.If (i + 2) ≡ itemAt s i
+  unfolding singles found
+  if-read = single-read I.If i ∙ percent-byte s (i + 1) refl 63 (h .question) ∙ item-percent s i (h .right) (h .percent)
+
+-- an argument and `%t` behind it
+module _ (s : List ℕ) (i : ℕ) (t : ArgumentTested s (i + 2)) where
+  pub test-digit : (49 ≤ byteAt s (i + 4)) × (byteAt s (i + 4) ≤ 57)
+  test-digit = let a : i + 2 + 2 ≡ i + 4 = omega arith in rw a at (t .digit)
+
+  pub test-read : TestAt s i (byteAt s (i + 4) - 49)
+  test-read =
+      let a : i + 2 + 2 ≡ i + 4 = omega arith in
+      let b : i + 2 + 3 ≡ i + 5 = omega arith in
+      let c : i + 2 + 5 ≡ i + 7 = omega arith in
+      let d = test-digit in
+      record {
+        argument = rw (a, b) at (t .argument);
+        test = rw (b, c) at (t .test);
+        few = omega arith;
+        inside = omega (arith, t .inside);
+      }

@@ -6,7 +6,8 @@ ghost use Rattle.expansion.specs.declared.Item.the-variants.{Number};
 ghost use Rattle.expansion.specs.Items.{byteAt, lexed, bracedAt, formatAt, widthAt, percentAt};
 ghost use Rattle.item_parts.specs.Classes.{otherAt};
 ghost use Rattle.item_parts.specs.Right.{RightItem};
-ghost use Rattle.items.specs.Parts.{Right, otherItem, LeftToOther};
+ghost use Rattle.items.specs.Parts.{Right, otherItem, IfAt, LeftToOther};
+ghost use Rattle.items.specs.declared.RunItem.the-variants.{Other};
 ghost use Rattle.items.specs.Reading.{ReadAs};
 use expansion::Base;
 use expansion::Item;
@@ -18,6 +19,20 @@ pub enum RunItem {
     Byte(u8),
     // %p1 to %p9, counted from 0
     Argument(usize),
+    // %?, an argument and %t in a row
+    Test(usize),
+    // %d %o %x %X with their fill and width
+    Number {
+        base: Base,
+        zero: bool,
+        width: u8,
+        next: usize,
+    },
+    // %'b' and %{digits}
+    Constant {
+        value: i32,
+        next: usize,
+    },
     // %? %t %e %;
     If,
     Then,
@@ -25,11 +40,18 @@ pub enum RunItem {
     End,
     // %i
     Increment,
-    Other { item: Item, next: usize },
+    // %s
+    Text,
+    // %l
+    Length,
+    Other {
+        item: Item,
+        next: usize,
+    },
 }
 
 fn other(item: Item, next: usize) -> RunItem
-    ensures { λ r. ⌜ r ≡ otherItem (lexed item next) ⌝ }
+    ensures { λ r. ⌜ r ≡ Other item next ⌝ }
 {
     RunItem::Other {
         item: item,
@@ -40,12 +62,10 @@ fn other(item: Item, next: usize) -> RunItem
 fn number(base: Base, zero: bool, width: u8, next: usize) -> RunItem
     ensures { λ r. ⌜ r ≡ otherItem (lexed (Number base zero width) next) ⌝ }
 {
-    RunItem::Other {
-        item: Item::Number {
-            base: base,
-            zero: zero,
-            width: width,
-        },
+    RunItem::Number {
+        base: base,
+        zero: zero,
+        width: width,
         next: next,
     }
 }
@@ -60,7 +80,10 @@ fn braced_at(s: &[u8], j: usize) -> RunItem
         v = v * 10 + (s[i] - 48) as u64;
         i += 1;
     }
-    other(Item::Constant(v as i32), i + 1)
+    RunItem::Constant {
+        value: v as i32,
+        next: i + 1,
+    }
 }
 
 fn format_at(s: &[u8], k: usize, zero: bool, width: u8) -> RunItem
@@ -135,6 +158,18 @@ fn other_at(s: &[u8], j: usize) -> RunItem
     }
 }
 
+// The `%?` at a place, with the argument that is tested right behind it.
+fn condition(s: &[u8], i: usize) -> RunItem
+    requires { ⌜ IfAt (now s) i ⌝ }
+    ensures { λ r. ⌜ ReadAs (now (s .entry)) i r ⌝ }
+{
+    if item_parts::tests_argument(s, i + 2) {
+        RunItem::Test((s[i + 4] - 49) as usize)
+    } else {
+        RunItem::If
+    }
+}
+
 // The right item that starts at a place.
 pub fn item_at(s: &[u8], i: usize) -> RunItem
     requires { ⌜ RightItem (now s) i ⌝ }
@@ -146,13 +181,18 @@ pub fn item_at(s: &[u8], i: usize) -> RunItem
     }
     match s[i + 1] {
         b'p' => RunItem::Argument((s[i + 2] - 49) as usize),
-        39 => other(Item::Constant(s[i + 2] as i32), i + 4),
+        39 => RunItem::Constant {
+            value: s[i + 2] as i32,
+            next: i + 4,
+        },
         b'{' => braced_at(s, i + 1),
-        b'?' => RunItem::If,
+        b'?' => condition(s, i),
         b't' => RunItem::Then,
         b'e' => RunItem::Else,
         b';' => RunItem::End,
         b'i' => RunItem::Increment,
+        b's' => RunItem::Text,
+        b'l' => RunItem::Length,
         _ => other_at(s, i + 1),
     }
 }

@@ -14,7 +14,8 @@ use Rattle.base.proofs.OverwriteLaws.{put-nil}
 use Rattle.expansion.specs.declared.Item.{Item}
 use Rattle.expansion.specs.declared.Item.the-variants as I
 use Rattle.print.specs.Emit.{emitted}
-use Rattle.expansion.specs.Machine.{Value, arity, effect, loaded}
+use Rattle.expansion.specs.Values.{Value}
+use Rattle.expansion.specs.Machine.{arity, effect, loaded}
 use Rattle.machine.specs.declared.Step.the-variants.{Go}
 use Rattle.variables.specs.Machines.{machine}
 
@@ -30,13 +31,15 @@ pub no-more : (w : ℕ) → Go w ≡ Go (w + 0)
 no-more w = ap Go (omega arith)
 
 -- an item's effect looks at no other values of the stack than those that it pops
-pub effect-same : (k : Item) (st st′ : List Value) (x y z : List ℤ) (a a′ b b′ : Value) → (0 < arity k → b ≡ b′) → (1 < arity k → a ≡ a′)
+pub effect-same : (k : Item) (st st′ x : List Value) (y z : List ℤ) (a a′ b b′ : Value) → (0 < arity k → b ≡ b′) → (1 < arity k → a ≡ a′)
     → effect k (machine st x y z) a b ≡ effect k (machine st′ x y z) a′ b′
 unfolding effect arity loaded
 effect-same (I.Byte c) st st′ x y z a a′ b b′ h g = refl
 effect-same (I.Argument n) st st′ x y z a a′ b b′ h g = refl
 effect-same (I.Number d f w) st st′ x y z a a′ b b′ h g = rw (h (omega arith))
 effect-same I.Character st st′ x y z a a′ b b′ h g = rw (h (omega arith))
+effect-same I.Text st st′ x y z a a′ b b′ h g = rw (h (omega arith))
+effect-same I.Length st st′ x y z a a′ b b′ h g = rw (h (omega arith))
 effect-same (I.Constant v) st st′ x y z a a′ b b′ h g = refl
 effect-same (I.Store c) st st′ x y z a a′ b b′ h g = rw (h (omega arith))
 effect-same (I.Load c) st st′ x y z a a′ b b′ h g = refl

@@ -7,14 +7,16 @@ use lib.ListN.{length}
 use Rattle.print.specs.Emit.{emitted}
 use Rattle.expansion.specs.Machine.{Machine, Effect, prints, pushes, stores, increments, toElse, toEnd, stored}
 use Rattle.expansion.specs.Machine.{printedBy}
+use Rattle.expansion.specs.Values.{number, text}
 use Rattle.machine.specs.declared.Step.{Step}
 use Rattle.machine.specs.declared.Step.the-variants.{Push, Go}
 
--- what a step answers, and the machine that it leaves; w is the output's length before it. No effect of an item that is
--- Simple is one of the last three
+-- what a step answers, and the machine that it leaves; w is the output's length before it. No effect of an item that
+-- is Simple pushes a text or is one of the last three
 unfoldable pub stepOf : Effect → ℕ → Step
 stepOf (prints bytes) w = Go (w + length bytes)
-stepOf (pushes v) w = Push v
+stepOf (pushes (number v)) w = Push v
+stepOf (pushes (text bytes)) w = Go w
 stepOf (stores c v) w = Go w
 stepOf increments w = Go w
 stepOf toElse w = Go w

@@ -1,12 +1,13 @@
 // The machine that expands a string, item by item (document 01: Expansion): how many values an item pops, and what an
-// item that needs neither the arguments nor another place does once its values are popped. Proved: each function is its
-// definition of expansion/specs. Assumed: nothing.
+// item that needs neither the arguments nor another place does once its values are popped. Proved: each function is
+// its definition of expansion/specs. Assumed: nothing.
 ghost use mathlib.Core.Path.{_≡_};
 ghost use mathlib.Core.List.{List};
 ghost use lib.IntN.{ℤ};
 ghost use Prim.Native.Nat.{_≤_};
 ghost use Rattle.print.specs.Bounds.{outputMost};
-ghost use Rattle.expansion.specs.Machine.{Value, arity, effect};
+ghost use Rattle.expansion.specs.Values.{Value, number};
+ghost use Rattle.expansion.specs.Machine.{arity, effect};
 ghost use Rattle.item_parts.specs.Right.{Simple};
 ghost use Rattle.variables.specs.Machines.{machine};
 ghost use Rattle.machine.specs.Steps.{SteppedAs};
@@ -33,6 +34,8 @@ pub fn arity(item: Item) -> usize
             width: _,
         } => 1,
         Item::Character => 1,
+        Item::Text => 1,
+        Item::Length => 1,
         Item::Constant(_) => 0,
         Item::Store(_) => 1,
         Item::Load(_) => 0,
@@ -59,9 +62,9 @@ pub fn take(
     written: usize,
 ) -> Step
     requires { ⌜ (written ≤ outputMost) × Simple item ⌝ }
-    ensures { λ r. ⌜ ((stack : List Value) (arguments : List ℤ)
-        → SteppedAs (effect item (machine stack arguments (now (locals .entry)) (now (lasting .entry))) a b) written
-        (machine stack arguments (now (locals .entry)) (now (lasting .entry)))
+    ensures { λ r. ⌜ ((stack arguments : List Value)
+        → SteppedAs (effect item (machine stack arguments (now (locals .entry)) (now (lasting .entry))) (number a)
+        (number b)) written (machine stack arguments (now (locals .entry)) (now (lasting .entry)))
         (machine stack arguments (now (locals .exit)) (now (lasting .exit))) (now (out .entry)) (now (out .exit)) r) ⌝ }
 {
     match item {
@@ -70,15 +73,18 @@ pub fn take(
             Step::Go(written + 1)
         }
         Item::Argument(_) => Step::Go(written),
-        Item::Number { base, zero, width } => {
-            let count = print::put_number(out, written, base, zero, width, b);
-            Step::Go(written + count)
-        }
+        Item::Number {
+            base: _,
+            zero: _,
+            width: _,
+        } => Step::Go(written),
         Item::Character => {
             print::put_byte(out, written, characters::byte_of(b));
             Step::Go(written + 1)
         }
-        Item::Constant(v) => Step::Push(v),
+        Item::Text => Step::Go(written),
+        Item::Length => Step::Go(written),
+        Item::Constant(_) => Step::Go(written),
         Item::Store(c) => {
             store(locals, lasting, c, b);
             Step::Go(written)

@@ -17,7 +17,8 @@ use borrow.Author.Tests.{eq-eqb, ne-eqb, le-leb, lt-leb, leb-true, leb-false}
 use Rattle.base.specs.If.{if_then_else_}
 use Rattle.expansion.specs.Items.{isDigit, decimal}
 use Rattle.number_words.specs.declared.Parsed.the-variants.{Value, Wrong}
-use Rattle.number_words.specs.Number.{areDigits, signedOf, numeralOf, valueOf, limited, noMagnitude, withDigit, magnitudeOf}
+use Rattle.number_words.specs.Number.{areDigits, isNumeral, signedOf, numeralOf, valueOf}
+use Rattle.number_words.specs.Number.{limited, noMagnitude, withDigit, magnitudeOf}
 
 -- ---- one digit more
 
@@ -98,6 +99,31 @@ digit-large n c l h k m = rw (le-leb 48 c l, le-leb c 57 h, le-leb n 2147483649 
 pub digit-fits : (n c : ℕ) → 48 ≤ c → c ≤ 57 → n ≤ 2147483649 → n * 10 + (c - 48) ≤ 2147483648 → n * 10 + (c - 48) ≡ withDigit n c
 unfolding withDigit
 digit-fits n c l h k m = rw (le-leb 48 c l, le-leb c 57 h, le-leb n 2147483649 k, le-leb _ _ m)
+
+-- ---- digits or not
+
+pub numeral-empty : (s : List ℕ) → length s ≡ 0 → false ≡ isNumeral s
+numeral-empty s e = rw (eq-eqb (length s) 0 e)
+
+module _ (s : List ℕ) (z : length s ≡ 0 → ⊥) where
+  pub numeral-none : magnitudeOf s ≡ noMagnitude → false ≡ isNumeral s
+  unfolding magnitudeOf
+  numeral-none = rw (ne-eqb (length s) 0 z) (by-tests (areDigits s) (leb (decimal 0 s) 2147483648) refl)
+    where
+      by-tests : (a t : Bool) → leb (decimal 0 s) 2147483648 ≡ t
+          → (if a then (if t then decimal 0 s else 2147483649) else noMagnitude) ≡ noMagnitude → false ≡ a
+      by-tests false t e h = refl
+      by-tests true true e h =
+          absurd (let l : decimal 0 s ≤ 2147483648 = leb-true (decimal 0 s) 2147483648 e in let z : ⊥ = omega arith in z)
+      by-tests true false e h = absurd (let z : ⊥ = omega arith in z)
+
+  pub numeral-some : (magnitudeOf s ≡ noMagnitude → ⊥) → true ≡ isNumeral s
+  unfolding magnitudeOf
+  numeral-some = rw (ne-eqb (length s) 0 z) (by-test (areDigits s))
+    where
+      by-test : (a : Bool) → ((if a then limited (decimal 0 s) else noMagnitude) ≡ noMagnitude → ⊥) → true ≡ a
+      by-test true h = refl
+      by-test false h = absurd (h refl)
 
 -- ---- signs
 

@@ -1,8 +1,8 @@
-// Numbers as words of a command line. Proved: `parse` and `magnitude` give what specs/Number.antt says of every
-// word. Assumed: nothing.
+// Numbers as words of a command line. Proved: `parse`, `magnitude` and `is_numeral` give what specs/Number.antt says
+// of every word. Assumed: nothing.
 ghost use mathlib.Core.Path.{_≡_};
 ghost use mathlib.Core.Bool.{true, false};
-ghost use Rattle.number_words.specs.Number.{signedOf, valueOf, withDigit, magnitudeOf};
+ghost use Rattle.number_words.specs.Number.{isNumeral, signedOf, valueOf, withDigit, magnitudeOf};
 
 // A word's value.
 pub enum Parsed {
@@ -51,6 +51,19 @@ pub fn magnitude(digits: &[u8]) -> u64
         i += 1;
     }
     n
+}
+
+// Whether a word is one or more digits.
+pub fn is_numeral(word: &[u8]) -> bool
+    ensures { λ r. ⌜ r ≡ isNumeral (now (word .entry)) ⌝ }
+{
+    if word.len() == 0 {
+        return false;
+    }
+    if magnitude(word) == NO_MAGNITUDE {
+        return false;
+    }
+    true
 }
 
 fn positive(n: u64) -> Parsed

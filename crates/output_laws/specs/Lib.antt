@@ -1,4 +1,5 @@
 pub mod Outputs
-pub mod Printed
+pub mod Holding
 pub mod NeverNul
+pub mod Printed
 pub mod NoNul

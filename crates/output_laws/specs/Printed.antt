@@ -1,4 +1,4 @@
--- No item prints a NUL.
+-- No item prints a NUL, where no text holds one.
 -- Assumes nothing.
 use mathlib.Core.Path.{_≡_, refl}
 use mathlib.Core.Bool.{Bool, true, false}
@@ -8,23 +8,24 @@ use Prim.Native.Char.{code}
 use native.Mathlib.Omega.{arith}
 use lib.Dec.{ltb}
 use lib.IntN.{ℤ, pos, negsuc}
-use lib.ListN.{length, getD, drop, replicate}
+use lib.ListN.{length, replicate}
 use Rattle.base.proofs.IfLaws.{if-both}
-use Rattle.base.proofs.TabulateLaws.{each-append, each-replicate}
+use Rattle.base.proofs.TabulateLaws.{each-append, each-replicate, each-getD}
 use Rattle.word.specs.Nul.{NotNul, NoNul}
 use Rattle.signed.specs.Signed.{isZero, low32}
 use Rattle.characters.proofs.Laws.{character-not-nul}
-use Rattle.expansion.specs.Limits.{stackMost}
 use Rattle.expansion.specs.declared.Item.{Item}
 use Rattle.expansion.specs.declared.Item.the-variants as I
 use Rattle.expansion.specs.declared.Base.{Base}
 use Rattle.expansion.specs.declared.Base.the-variants.{Decimal, Octal, SmallHex, CapitalHex}
 use Rattle.expansion.specs.Items.{itemAt}
 use Rattle.expansion.specs.Print.{digitByte, digitsFrom, digits, sign, numeral, printed}
-use Rattle.expansion.specs.Machine.{Machine, Value, withStack, arity, effect, performed, taking}
-use Rattle.expansion.specs.Machine.{Effect, prints, pushes, stores, increments, toElse, toEnd}
+use Rattle.expansion.specs.Values.{Value, number, text, noValue, numberIn, textIn}
+use Rattle.expansion.specs.Machine.{Machine, Effect, raised, printedBy, effect, taking}
 use Rattle.item_parts.proofs.Laws.{Holds, item-holds}
 use Rattle.output_laws.specs.Outputs.{HoldOf}
+use Rattle.output_laws.specs.Holding.{Holding, GivesValue, taking-holding}
+use Rattle.output_laws.specs.NeverNul.{FreeValue}
 
 pub free-append : (x y : List ℕ) → NoNul x → NoNul y → NoNul (x ++ y)
 free-append x y = each-append NotNul x y
@@ -85,57 +86,77 @@ printed-free b zeros width v = if-both NoNul zeros (λ _. zeros-free) (λ _. bla
 
 -- ---- what an item prints
 
-abbrev PrintsFree : Effect → Type 0
-PrintsFree (prints bytes) = NoNul bytes
-PrintsFree (pushes v) = Unit {0}
-PrintsFree (stores c v) = Unit {0}
-PrintsFree increments = Unit {0}
-PrintsFree toElse = Unit {0}
-PrintsFree toEnd = Unit {0}
+-- a value whose text, if it has one, holds no NUL
+text-free : (v : Value) → FreeValue v → NoNul (textIn v)
+text-free (number n) h = tt
+text-free (text bytes) h = h
 
-effect-free : (s : List ℕ) (k : Item) (m : Machine) (a b : Value) → Holds s k → PrintsFree (effect k m a b)
+raised-free : (v : Value) → FreeValue v → FreeValue (raised v)
+unfolding raised
+raised-free (number n) h = tt
+raised-free (text bytes) h = h
+
+-- nothing is asked of a number
+abbrev pub AnyNumber : ℤ → Type 0
+AnyNumber v = Unit {0}
+
+-- no text of the machine's stack and arguments holds a NUL
+abbrev pub FreeMachine : Machine → Type 0
+FreeMachine m = Holding FreeValue AnyNumber m
+
+effect-value : (k : Item) (m : Machine) (a b : Value) → FreeMachine m → GivesValue FreeValue AnyNumber (effect k m a b)
 unfolding effect
-effect-free s (I.Byte c) m a b f = (λ e. omega arith, tt)
-effect-free s (I.Argument n) m a b f = tt
-effect-free s (I.Number base zeros width) m a b f = printed-free base zeros width b
-effect-free s I.Character m a b f = (character-not-nul b, tt)
-effect-free s (I.Constant v) m a b f = tt
-effect-free s (I.Store c) m a b f = tt
-effect-free s (I.Load c) m a b f = tt
-effect-free s (I.Binary o) m a b f = tt
-effect-free s I.Not m a b f = tt
-effect-free s I.Invert m a b f = tt
-effect-free s I.Increment m a b f = tt
-effect-free s I.If m a b f = tt
-effect-free s I.Then m a b f = if-both PrintsFree (isZero b) (λ _. tt) (λ _. tt)
-effect-free s I.Else m a b f = tt
-effect-free s I.End m a b f = tt
-effect-free s I.Wrong m a b f = tt
+effect-value (I.Byte c) m a b h = tt
+effect-value (I.Argument n) m a b h = each-getD FreeValue (m .arguments) n noValue (h .arguments) tt
+effect-value (I.Number base zeros width) m a b h = tt
+effect-value I.Character m a b h = tt
+effect-value I.Text m a b h = tt
+effect-value I.Length m a b h = tt
+effect-value (I.Constant v) m a b h = tt
+effect-value (I.Store c) m a b h = tt
+effect-value (I.Load c) m a b h = tt
+effect-value (I.Binary o) m a b h = tt
+effect-value I.Not m a b h = tt
+effect-value I.Invert m a b h = tt
+effect-value I.Increment m a b h = tt
+effect-value I.If m a b h = tt
+effect-value I.Then m a b h =
+    if-both (GivesValue FreeValue AnyNumber) (isZero (numberIn b)) (λ _. tt) (λ _. tt)
+effect-value I.Else m a b h = tt
+effect-value I.End m a b h = tt
+effect-value I.Wrong m a b h = tt
 
--- nothing is asked of the machine
-abbrev pub Any : Machine → Type 0
-Any m = Unit {0}
+abbrev PrintsFree : Effect → Type 0
+PrintsFree e = NoNul (printedBy e)
 
-performed-free : (e : Effect) (m : Machine) → PrintsFree e → HoldOf Any NoNul (performed e m)
-unfolding performed
-performed-free (prints bytes) m f = (tt, f)
-performed-free (pushes v) m f =
-    if-both (HoldOf Any NoNul) (ltb (length (m .stack)) stackMost) (λ _. (tt, tt)) (λ _. tt)
-performed-free (stores c v) m f = (tt, tt)
-performed-free increments m f = (tt, tt)
-performed-free toElse m f = tt
-performed-free toEnd m f = tt
+effect-free : (s : List ℕ) (k : Item) (m : Machine) (a b : Value) → Holds s k → FreeValue b
+    → PrintsFree (effect k m a b)
+unfolding effect
+effect-free s (I.Byte c) m a b f h = (λ e. omega arith, tt)
+effect-free s (I.Argument n) m a b f h = tt
+effect-free s (I.Number base zeros width) m a b f h = printed-free base zeros width (numberIn b)
+effect-free s I.Character m a b f h = (character-not-nul (numberIn b), tt)
+effect-free s I.Text m a b f h = text-free b h
+effect-free s I.Length m a b f h = tt
+effect-free s (I.Constant v) m a b f h = tt
+effect-free s (I.Store c) m a b f h = tt
+effect-free s (I.Load c) m a b f h = tt
+effect-free s (I.Binary o) m a b f h = tt
+effect-free s I.Not m a b f h = tt
+effect-free s I.Invert m a b f h = tt
+effect-free s I.Increment m a b f h = tt
+effect-free s I.If m a b f h = tt
+effect-free s I.Then m a b f h = if-both PrintsFree (isZero (numberIn b)) (λ _. tt) (λ _. tt)
+effect-free s I.Else m a b f h = tt
+effect-free s I.End m a b f h = tt
+effect-free s I.Wrong m a b f h = tt
 
-taking-free : (s : List ℕ) (k : Item) (m : Machine) → Holds s k → HoldOf Any NoNul (taking k m)
-unfolding taking
-taking-free s k m f =
-    let a : Value = getD (m .stack) 1 (pos 0) in
-    let b : Value = getD (m .stack) 0 (pos 0) in
-    if-both (HoldOf Any NoNul) (ltb (length (m .stack)) (arity k)) (λ _. tt)
-    (λ _. performed-free (effect k m a b) (withStack m (drop (arity k) (m .stack))) (effect-free s k m a b f))
+-- ---- the law: bytes without a NUL stay so with what an item prints
 
--- ---- the law
-
-pub item-prints-free : (s : List ℕ) (i : ℕ) (m : Machine) → i < length s
-    → HoldOf Any NoNul (taking (itemAt s i .item) m)
-item-prints-free s i m h = taking-free s (itemAt s i .item) m (item-holds s i h)
+pub item-prints-free : (s : List ℕ) (i : ℕ) (m : Machine) (x : List ℕ) → i < length s → FreeMachine m → NoNul x
+    → HoldOf FreeMachine (λ bytes. NoNul (x ++ bytes)) (taking (itemAt s i .item) m)
+item-prints-free s i m x l h f =
+    let k : Item = itemAt s i .item in
+    taking-holding FreeValue AnyNumber tt raised-free k m (λ bytes. NoNul (x ++ bytes)) h
+    (λ a b _ _. effect-value k m a b h)
+    (λ a b _ w. free-append x (printedBy (effect k m a b)) f (effect-free s k m a b (item-holds s i l) w))

@@ -181,6 +181,7 @@ pub fn of_expansion(answer: Expansion) -> u8
         Expansion::Malformed(_) => 14,
         Expansion::Empty(_) => 15,
         Expansion::Full(_) => 16,
+        Expansion::Kind(_) => 21,
         Expansion::Room(_) => 8,
     }
 }

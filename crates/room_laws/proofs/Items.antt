@@ -1,15 +1,16 @@
--- An item prints at most 25 times its own bytes.
+-- An item prints at most 25 times its own bytes, and `%s` a text more.
 -- Assumes nothing.
 use mathlib.Core.Path.{_≡_, refl}
 use mathlib.Core.Bool.{Bool, true, false, _&&_, not}
 use mathlib.Core.List.{List, [], _∷_}
-use Prim.Native.Nat.{ℕ, suc, _+_, _-_, _≤_, _<_}
+use Prim.Native.Nat.{ℕ, suc, _+_, _-_, _*_, _≤_, _<_}
 use Prim.Native.Char.{code}
 use native.Mathlib.Omega.{arith}
 use lib.Dec.{eqb, leb}
 use lib.IntN.{ℤ, pos, negsuc}
 use lib.ListN.{length, take, drop, length-append, length-replicate}
 use borrow.Author.Tests.{not-false}
+use Rattle.base.specs.If.{if_then_else_}
 use Rattle.base.proofs.IfLaws.{if-both}
 use Rattle.signed.specs.Signed.{isZero, low32}
 use Rattle.signed.proofs.Laws.{low-fits}
@@ -22,11 +23,14 @@ use Rattle.expansion.specs.declared.Lexed.{Lexed}
 use Rattle.expansion.specs.Items.{byteAt, isDigit, isNonzero, isLetter, singles, found, argumentAt, quotedAt}
 use Rattle.expansion.specs.Items.{decimal, digitsEnd, bracedAt, storeAt, loadAt, formatAt, widthAt, percentAt, itemAt}
 use Rattle.expansion.specs.Print.{digits, sign, numeral, printed}
-use Rattle.expansion.specs.Machine.{Machine, Value, Effect, printedBy, effect}
+use Rattle.expansion.specs.Values.{Value, numberIn}
+use Rattle.expansion.specs.Machine.{Machine, Effect, printedBy, effect}
+use Rattle.expansion.specs.Counting.{printsText}
 use Rattle.item_parts.proofs.Cases.{within-true}
 use Rattle.item_parts.proofs.Laws.{item-on}
 use Rattle.expansion_laws.specs.DigitCount.{digits-below, digits-ten}
-use Rattle.room_laws.specs.Room.{Value32, ItemBounded}
+use Rattle.room_laws.specs.Room.{Value32, ValueWithin, ItemBounded}
+use Rattle.room_laws.proofs.Values.{number-value, text-value}
 
 -- ---- printed numbers
 
@@ -59,6 +63,8 @@ widthOf (I.Byte b) = 0
 widthOf (I.Argument n) = 0
 widthOf (I.Number b zeros width) = width
 widthOf I.Character = 0
+widthOf I.Text = 0
+widthOf I.Length = 0
 widthOf (I.Constant v) = 0
 widthOf (I.Store c) = 0
 widthOf (I.Load c) = 0
@@ -169,30 +175,35 @@ item-wide s i =
 abbrev PrintsMost : ℕ → Effect → Type 0
 PrintsMost most e = length (printedBy e) ≤ most
 
-effect-most : (k : Item) (m : Machine) (a b : Value) (most : ℕ) → Value32 b → 11 ≤ most → widthOf k ≤ most
-    → PrintsMost most (effect k m a b)
-unfolding effect
-effect-most (I.Byte c) m a b most h e w = omega arith
-effect-most (I.Argument n) m a b most h e w = omega arith
-effect-most (I.Number base zeros width) m a b most h e w = printed-most base zeros width b most h e w
-effect-most I.Character m a b most h e w = omega arith
-effect-most (I.Constant v) m a b most h e w = omega arith
-effect-most (I.Store c) m a b most h e w = omega arith
-effect-most (I.Load c) m a b most h e w = omega arith
-effect-most (I.Binary o) m a b most h e w = omega arith
-effect-most I.Not m a b most h e w = omega arith
-effect-most I.Invert m a b most h e w = omega arith
-effect-most I.Increment m a b most h e w = omega arith
-effect-most I.If m a b most h e w = omega arith
-effect-most I.Then m a b most h e w = if-both (PrintsMost most) (isZero b) (λ _. omega arith) (λ _. omega arith)
-effect-most I.Else m a b most h e w = omega arith
-effect-most I.End m a b most h e w = omega arith
-effect-most I.Wrong m a b most h e w = omega arith
+-- a text of at most so many bytes; what else an item prints has room bytes at most
+effect-most : (k : Item) (m : Machine) (a b : Value) (most room : ℕ) → ValueWithin most b → 11 ≤ room → widthOf k ≤ room
+    → PrintsMost (room + most * (if printsText k then 1 else 0)) (effect k m a b)
+unfolding effect printsText
+effect-most (I.Byte c) m a b most room h e w = omega arith
+effect-most (I.Argument n) m a b most room h e w = omega arith
+effect-most (I.Number base zeros width) m a b most room h e w =
+    omega (arith, printed-most base zeros width (numberIn b) room (number-value most b h) e w)
+effect-most I.Character m a b most room h e w = omega arith
+effect-most I.Text m a b most room h e w = omega (arith, text-value most b h)
+effect-most I.Length m a b most room h e w = omega arith
+effect-most (I.Constant v) m a b most room h e w = omega arith
+effect-most (I.Store c) m a b most room h e w = omega arith
+effect-most (I.Load c) m a b most room h e w = omega arith
+effect-most (I.Binary o) m a b most room h e w = omega arith
+effect-most I.Not m a b most room h e w = omega arith
+effect-most I.Invert m a b most room h e w = omega arith
+effect-most I.Increment m a b most room h e w = omega arith
+effect-most I.If m a b most room h e w = omega arith
+effect-most I.Then m a b most room h e w =
+    if-both (PrintsMost (room + most * 0)) (isZero (numberIn b)) (λ _. omega arith) (λ _. omega arith)
+effect-most I.Else m a b most room h e w = omega arith
+effect-most I.End m a b most room h e w = omega arith
+effect-most I.Wrong m a b most room h e w = omega arith
 
 -- ---- the law
 
-pub item-bounded : (s : List ℕ) → ItemBounded s
-item-bounded s i m a b h v =
-    let most : ℕ = roomFor (itemAt s i .next - i) in
-    let eleven : 11 ≤ most = omega (arith, item-on s i h) in
-    omega (arith, effect-most (itemAt s i .item) m a b most v eleven (item-wide s i .wide))
+pub item-bounded : (most : ℕ) (s : List ℕ) → ItemBounded most s
+item-bounded most s i m a b h v =
+    let room : ℕ = roomFor (itemAt s i .next - i) in
+    let eleven : 11 ≤ room = omega (arith, item-on s i h) in
+    effect-most (itemAt s i .item) m a b most room v eleven (item-wide s i .wide)

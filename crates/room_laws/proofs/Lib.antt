@@ -1,3 +1,3 @@
-pub mod Items
 pub mod Values
+pub mod Items
 pub mod Bounded

@@ -16,6 +16,8 @@ use Rattle.entry.specs.declared.Part.{Part}
 use Rattle.entry.specs.State.{State, absent, cancelled, present, mapState}
 use Rattle.entry.specs.Reading.{bytesOf}
 use Rattle.entry.specs.Asking.{askingString}
+use Rattle.expansion.specs.declared.Argument.{Argument}
+use Rattle.expansion.specs.Arguments.{liesIn, eachPasses}
 use Rattle.expansion.specs.Expanding.{Expanding, expanding, Counts, counted, saysExpansion}
 use Rattle.terminfo.specs.declared.ExpandedString.{ExpandedString}
 use Rattle.terminfo.specs.declared.ExpandedString.the-variants as X
@@ -26,19 +28,21 @@ zeroLasting = replicate 26 (pos 0)
 
 -- what expanding gives, the variables all 0, by what asking file f for the string gave. Left free by document 01: a
 -- string that isn't present. It is not expanded, and its state is the answer
-abbrev pub expandingAsked : List ℕ → List ℤ → ℕ → ℕ → Answer (State Part) → Answer (State Expanding)
-expandingAsked f arguments size at (refused n v) = refused n v
-expandingAsked f arguments size at (gives absent) = gives absent
-expandingAsked f arguments size at (gives cancelled) = gives cancelled
-expandingAsked f arguments size at (gives (present q)) =
-    mapAnswer present (expanding (bytesOf f q) arguments zeroLasting size at)
+abbrev pub expandingAsked : List ℕ → List Argument → List ℕ → ℕ → ℕ → Answer (State Part) → Answer (State Expanding)
+expandingAsked f arguments lent size at (refused n v) = refused n v
+expandingAsked f arguments lent size at (gives absent) = gives absent
+expandingAsked f arguments lent size at (gives cancelled) = gives cancelled
+expandingAsked f arguments lent size at (gives (present q)) =
+    mapAnswer present (expanding (bytesOf f q) arguments lent zeroLasting size at)
 
--- "place beyond the edition, or above the buffer's length; entry not from opening": 17; else what the string at place
--- p of file f gives
-unfoldable pub expandingAt : Edition → List ℕ → Place → List ℤ → ℕ → ℕ → Answer (State Expanding)
-expandingAt e f p arguments size at =
+-- "place beyond the edition, or above the buffer's length; entry not from opening": 17; document 02, 2026-07: "A text
+-- that doesn't lie in what was lent is 17, judged after the output place", whatever the string's state is; else what
+-- the string at place p of file f gives
+unfoldable pub expandingAt : Edition → List ℕ → Place → List Argument → List ℕ → ℕ → ℕ → Answer (State Expanding)
+expandingAt e f p arguments lent size at =
     if not (leb at size) then refused 17 []
-    else expandingAsked f arguments size at (askingString e f p)
+    else if not (eachPasses (liesIn lent) arguments) then refused 17 []
+    else expandingAsked f arguments lent size at (askingString e f p)
 
 -- "bytes before it and after the output stay"; a refusal, an absent and a cancelled string change nothing
 abbrev pub stateOutput : List ℕ → ℕ → Answer (State Expanding) → List ℕ

@@ -2,9 +2,13 @@
 // lent (document 01: Compiled entry; Expansion). Each call over such a struct passes its slice and numbers on to
 // `entry_numbers`. Proved: each answers every value as the definition that its contract names. Assumed: nothing.
 ghost use mathlib.Core.Path.{_≡_};
+ghost use mathlib.Core.List.{[]};
 ghost use lib.ListN.{length};
 ghost use Rattle.entry.specs.Asking.{askingString};
 ghost use Rattle.entry.specs.Says.{saysNames, saysBoolean, saysNumber, saysString};
+ghost use Rattle.expansion.specs.Limits.{roomFor};
+ghost use Rattle.expansion.specs.Counting.{roomOf};
+ghost use Rattle.expansion.specs.Arguments.{numbersGiven};
 ghost use Rattle.expansion.specs.Expanding.{expanding};
 ghost use Rattle.expand_output.specs.Answers.{LentAs};
 ghost use Rattle.terminfo.specs.Entries.{openedEntry};
@@ -21,6 +25,7 @@ use entry::StringState;
 use entry_numbers::BeyondEdition;
 use entry_numbers::EntryNumbers;
 use entry_numbers::EntryRefusal;
+use expansion::Argument;
 use expansion::Expansion;
 use expansion::Lasting;
 
@@ -119,8 +124,8 @@ pub fn open_string<'a>(file: &'a [u8], edition: Edition, place: Place) -> String
     string_part(open(file, edition), place)
 }
 
-// Expands a string into the free part of the buffer from place at on. The lasting variables are lent and change in
-// place; on a refusal they and the buffer are as they were. The output holds no NUL (`expanding-no-nul` of
+// Expands a string with nine numbers into the free part of the buffer from place at on. The lasting variables are lent
+// and change in place; on a refusal they and the buffer are as they were. The output holds no NUL (`numbers-no-nul` of
 // output_laws/specs/NoNul.antt).
 pub fn expand(
     string: &[u8],
@@ -129,11 +134,32 @@ pub fn expand(
     out: &mut [u8],
     at: usize,
 ) -> Expansion
-    ensures { λ r. ⌜ LentAs (length (now (string .entry))) (expanding (now (string .entry)) arguments
-        (now (lasting .entry) .values) (length (now (out .entry))) at) (now (lasting .entry) .values)
-        (now (lasting .exit) .values) (now (out .entry)) at (now (out .exit)) r ⌝ }
+    ensures { λ r. ⌜ LentAs (length (now (string .entry))) (roomFor (length (now (string .entry))))
+        (expanding (now (string .entry)) (numbersGiven arguments) [] (now (lasting .entry) .values)
+        (length (now (out .entry))) at) (now (lasting .entry) .values) (now (lasting .exit) .values)
+        (now (out .entry)) at (now (out .exit)) r ⌝ }
 {
     let e = expand::expand(string, arguments, *lasting, out, at);
+    *lasting = e.lasting;
+    e.answer
+}
+
+// The same with arguments that are numbers or parts of a block of texts. The output holds no NUL where no text holds
+// one (`expanding-no-nul` of output_laws/specs/NoNul.antt).
+pub fn expand_texts(
+    string: &[u8],
+    arguments: [Argument; 9],
+    texts: &[u8],
+    lasting: &mut Lasting,
+    out: &mut [u8],
+    at: usize,
+) -> Expansion
+    ensures { λ r. ⌜ LentAs (length (now (string .entry))) (roomOf (now (string .entry)))
+        (expanding (now (string .entry)) arguments (now (texts .entry)) (now (lasting .entry) .values)
+        (length (now (out .entry))) at) (now (lasting .entry) .values) (now (lasting .exit) .values)
+        (now (out .entry)) at (now (out .exit)) r ⌝ }
+{
+    let e = expand::expand_texts(string, arguments, texts, *lasting, out, at);
     *lasting = e.lasting;
     e.answer
 }
@@ -153,9 +179,9 @@ pub enum ExpandedString {
     Expansion(Expansion),
 }
 
-// Opens a file and expands the string at a place, with lasting variables that are 0 at first and are not given back.
-// Its parameters are plain: a caller's proof is made by the check. The output holds no NUL (`expanding-at-no-nul` of
-// specs/NoNul.antt).
+// Opens a file and expands the string at a place with nine numbers, and with lasting variables that are 0 at first and
+// are not given back. Its parameters are plain: a caller's proof is made by the check. The output holds no NUL
+// (`numbers-at-no-nul` of specs/NoNul.antt).
 pub fn open_expand(
     file: &[u8],
     edition: Edition,
@@ -164,16 +190,44 @@ pub fn open_expand(
     out: &mut [u8],
     at: usize,
 ) -> ExpandedString
-    ensures { λ r. ⌜ WrittenAs (expandingAt edition (now (file .entry)) place arguments (length (now (out .entry)))
-        at) (now (out .entry)) at (now (out .exit)) r ⌝ }
+    ensures { λ r. ⌜ WrittenAs (expandingAt edition (now (file .entry)) place (numbersGiven arguments) []
+        (length (now (out .entry))) at) (now (out .entry)) at (now (out .exit)) r ⌝ }
+{
+    open_expand_texts(
+        file,
+        edition,
+        place,
+        arguments::numbers(arguments),
+        b"",
+        out,
+        at,
+    )
+}
+
+// The same with arguments that are numbers or parts of a block of texts. The output holds no NUL where no text holds
+// one (`expanding-at-no-nul` of specs/NoNul.antt).
+pub fn open_expand_texts(
+    file: &[u8],
+    edition: Edition,
+    place: Place,
+    arguments: [Argument; 9],
+    texts: &[u8],
+    out: &mut [u8],
+    at: usize,
+) -> ExpandedString
+    ensures { λ r. ⌜ WrittenAs (expandingAt edition (now (file .entry)) place arguments (now (texts .entry))
+        (length (now (out .entry))) at) (now (out .entry)) at (now (out .exit)) r ⌝ }
 {
     if out.len() < at {
+        return ExpandedString::Expansion(Expansion::Place);
+    }
+    if !arguments::all_lie_in(arguments, texts.len()) {
         return ExpandedString::Expansion(Expansion::Place);
     }
     match states::string(file, edition, place) {
         StringState::Present(p) => {
             let string = states::part(file, p);
-            let e = expand::expand(string, arguments, zero_lasting(), out, at);
+            let e = expand::expand_texts(string, arguments, texts, zero_lasting(), out, at);
             let answer = e.answer;
             ExpandedString::Expansion(answer)
         }

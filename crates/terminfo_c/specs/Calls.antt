@@ -4,12 +4,10 @@
 use mathlib.Core.Path.{_≡_}
 use mathlib.Core.List.{List}
 use Prim.Native.Nat.{ℕ}
-use lib.IntN.{ℤ}
 use Rattle.edition.specs.declared.Edition.{Edition}
-use Rattle.base.specs.Answer.{Answer, refused, gives, mapAnswer, bufferAfter}
+use Rattle.base.specs.Answer.{Answer, refused, gives, bufferAfter}
 use Rattle.list_states.specs.Listing.{Arrays, roomsOf, listing, arraysAfter}
-use Rattle.expansion.specs.Expanding.{Expanding, counted, lastingAfter, outputAfter}
-use Rattle.c_numbers.specs.Numbers.{numbered, none, countsCode}
+use Rattle.c_numbers.specs.Numbers.{numbered, none}
 
 -- what a lent array of fixed size holds after a call that fills it; a refusal changes nothing
 abbrev pub arrayAfter : List ℕ → Answer (List ℕ) → List ℕ
@@ -25,10 +23,3 @@ pub record ListedNumber (e : Edition) (f : List ℕ) (before after : Arrays) (r 
 pub record FileNumber (code : Answer (List ℕ) → ℕ) (a : Answer (List ℕ)) (before after : List ℕ) (r : ℕ) : Type 0 where
   pub number : r ≡ code a
   pub buffer : after ≡ bufferAfter before a
-
--- the number, the lasting variables and the buffer that expanding leaves
-pub record ExpandedNumber (a : Answer Expanding) (before after : List ℤ) (b : List ℕ) (at : ℕ) (b′ : List ℕ) (r : ℕ) :
-    Type 0 where
-  pub number : r ≡ numbered countsCode (mapAnswer counted a)
-  pub lasting : after ≡ lastingAfter before a
-  pub output : b′ ≡ outputAfter b at a

@@ -2,6 +2,7 @@
 // refusal's number in the top byte, 0 for success, and below it what the refusal or the call gives. Proved: each says
 // as much as the call that it passes on. Assumed: nothing.
 ghost use mathlib.Core.Path.{_≡_};
+ghost use mathlib.Core.List.{[]};
 ghost use lib.ListN.{length};
 ghost use Rattle.base.specs.Answer.{mapAnswer};
 ghost use Rattle.entry.specs.Asking.{opening, askingNames};
@@ -10,11 +11,13 @@ ghost use Rattle.entry.specs.Merging.{merging};
 ghost use Rattle.entry.specs.Writing.{writing};
 ghost use Rattle.text.specs.Building.{first, named};
 ghost use Rattle.text.specs.Compiling.{compiling};
+ghost use Rattle.expansion.specs.Arguments.{numbersGiven};
 ghost use Rattle.expansion.specs.Expanding.{expanding};
 ghost use Rattle.c_numbers.specs.Numbers.{numbered, mergingNumber, none, partCode, openingArray};
 ghost use Rattle.c_asked.specs.Asked.{edition, booleanState, numberState, stringState};
 ghost use Rattle.c_asked.specs.Asked.{asking8, namingBy, findNumber, namedState};
-ghost use Rattle.terminfo_c.specs.Calls.{arrayAfter, FileNumber, ExpandedNumber, ListedNumber};
+ghost use Rattle.c_numbers.specs.Expanded.{ExpandedNumber};
+ghost use Rattle.terminfo_c.specs.Calls.{arrayAfter, FileNumber, ListedNumber};
 ghost use Rattle.list_states.specs.Listing.{arrays};
 use edition::Edition;
 use edition::Place;
@@ -336,7 +339,7 @@ pub extern "C" fn terminfo_capability(kind: u8, place: usize) -> u64
 }
 
 // Expands a string into the buffer from place at on: the steps above the output's length, or the refusal. The lasting
-// variables change in place. The output holds no NUL (`expanding-no-nul` of output_laws/specs/NoNul.antt).
+// variables change in place. The output holds no NUL (`numbers-no-nul` of output_laws/specs/NoNul.antt).
 #[no_mangle]
 pub extern "C" fn terminfo_expand(
     string: &[u8],
@@ -345,9 +348,9 @@ pub extern "C" fn terminfo_expand(
     buffer: &mut [u8],
     at: usize,
 ) -> u64
-    ensures { λ r. ⌜ ExpandedNumber (expanding (now (string .entry)) (now (arguments .entry)) (now (lasting .entry))
-        (length (now (buffer .entry))) at) (now (lasting .entry)) (now (lasting .exit)) (now (buffer .entry)) at
-        (now (buffer .exit)) r ⌝ }
+    ensures { λ r. ⌜ ExpandedNumber (expanding (now (string .entry)) (numbersGiven (now (arguments .entry))) []
+        (now (lasting .entry)) (length (now (buffer .entry))) at) (now (lasting .entry)) (now (lasting .exit))
+        (now (buffer .entry)) at (now (buffer .exit)) r ⌝ }
 {
     let nine = *arguments;
     c_numbers::expansion_number(expand::expand_lent(string, nine, lasting, buffer, at))

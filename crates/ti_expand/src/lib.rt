@@ -1,22 +1,23 @@
-// `ti expand [-v] [-e EDITION] FILE CAPABILITY [NUMBER]..`: expands a capability of a compiled file with up to nine
-// numbers, through the library only. The output goes to standard output as it is; with -v, shown, and then the steps
-// and the bytes, each with its bound.
-// Proved: it is safe and ends; a word's number is that of number_words/specs, what is expanded is the file's string, a
-// refusal's number is that of expansion/specs; what stands for a byte is what shown/specs says. Assumed: what libc and
+// `ti expand [-v] [-e EDITION] FILE CAPABILITY [ARGUMENT]..`: expands a capability of a compiled file with up to nine
+// numbers and texts, through the library only. The output goes to standard output as it is; with -v, shown, and then
+// the steps and the bytes, each with its bound.
+// Proved: it is safe and ends; a word's argument is that of argument_words/specs, what is expanded is the file's string,
+// a refusal's number is that of expansion/specs; what stands for a byte is what shown/specs says. Assumed: what libc and
 // os say of C.
 ghost use mathlib.Core.Path.{_≡_};
-ghost use Prim.Native.Nat.{_≤_};
 ghost use Rattle.entry.specs.Asking.{opening};
 ghost use Rattle.entry.specs.Says.{saysOpened};
 use edition::Edition;
 use edition::Place;
 use entry::Opened;
+use expansion::Argument;
 use expansion::Expansion;
 use names::Found;
-use number_words::Parsed;
+use opened::Bounds;
 use option_words::OwnOption;
 use shown::CONTENT_LEAST;
 use terminfo::ExpandedString;
+use ti_arguments::TEXTS_ROOM;
 use ti_common::FILE_ROOM;
 use ti_common::Status;
 use ti_common::complain;
@@ -29,79 +30,26 @@ use ti_options::Outcome;
 
 mod opened;
 
-// The bytes of output for a byte of the string, at most (`bounded` of room_laws).
-const ROOM_FOR_BYTE: usize = 25;
+// Room for the output of any string (`room-most` of expansion_laws): refusal 8 can't come.
+const OUTPUT_ROOM: usize = 525000;
 
-// Room for the output of any string.
-const OUTPUT_ROOM: usize = 25000;
-
-// The most operands: the file, the capability, nine numbers.
+// The most operands: the file, the capability, nine arguments.
 const OPERANDS_MOST: usize = 11;
 
 fn describe(words: Words) -> Status {
     ti_common::words::describe(
         words,
-        b"expand [-v] [-e EDITION] FILE CAPABILITY [NUMBER]..",
-        b"Expands a string capability of a compiled file with up to nine numbers, 0 for those not given, and\n\
-            writes the bytes. With -v they are shown as `ti show` shows them, and then the steps and the bytes,\n\
-            each with a bound by the string's length. The file is read in the second edition, or the one\n\
-            behind -e: 1, 2 or its three counts, as 21,8,138.\n",
+        b"expand [-v] [-e EDITION] FILE CAPABILITY [ARGUMENT]..",
+        b"Expands a string capability of a compiled file with up to nine arguments and writes the bytes. An\n\
+            argument that is a decimal number is a number of 32 bits, any other a text of at most 1,000 bytes;\n\
+            =WORD is always the text WORD, and one that is not given is the number 0. With -v the bytes are\n\
+            shown as `ti show` shows them, and then the steps and the bytes, each with its bound. The file is\n\
+            read in the second edition, or the one behind -e: 1, 2 or its three counts, as 21,8,138.\n",
     )
 }
 
 fn misuse() -> Status {
-    ti_common::words::misuse(b"expand [-v] [-e EDITION] FILE CAPABILITY [NUMBER]..")
-}
-
-// What the word at a place gives as a number; 0 where there is none.
-fn parsed_at(i: usize) -> Parsed {
-    if os::arg_count() <= i {
-        return Parsed::Value(0);
-    }
-    let mut word = io::buffer();
-    let n = os::arg(i, &mut word);
-    if os::errno() != 0 {
-        return Parsed::Wrong;
-    }
-    number_words::parse(&word[..n])
-}
-
-fn is_number(i: usize) -> bool {
-    match parsed_at(i) {
-        Parsed::Value(_) => true,
-        Parsed::Wrong => false,
-    }
-}
-
-fn number_at(i: usize) -> i32 {
-    match parsed_at(i) {
-        Parsed::Value(v) => v,
-        Parsed::Wrong => 0,
-    }
-}
-
-// Whether three words from a place on are numbers.
-fn are_three(first: usize) -> bool
-    requires { ⌜ first ≤ 70000 ⌝ }
-{
-    is_number(first) & is_number(first + 1) & is_number(first + 2)
-}
-
-// The nine numbers that the words from a place on give.
-fn numbers_from(first: usize) -> [i32; 9]
-    requires { ⌜ first ≤ 70000 ⌝ }
-{
-    [
-        number_at(first),
-        number_at(first + 1),
-        number_at(first + 2),
-        number_at(first + 3),
-        number_at(first + 4),
-        number_at(first + 5),
-        number_at(first + 6),
-        number_at(first + 7),
-        number_at(first + 8),
-    ]
+    ti_common::words::misuse(b"expand [-v] [-e EDITION] FILE CAPABILITY [ARGUMENT]..")
 }
 
 // Says a count, what is counted and the most that it can be.
@@ -109,13 +57,12 @@ fn say_count(count: usize, what: &[u8], most: usize) -> bool {
     say_number(count) & say(what) & say(b" (at most ") & say_number(most) & say(b")")
 }
 
-// Writes the output of a string of so many bytes.
-fn say_output(output: &[u8], steps: usize, length: u16, is_verbose: bool) -> Status {
+// Writes the output of a string.
+fn say_output(output: &[u8], steps: usize, most: Bounds, is_verbose: bool) -> Status {
     if is_verbose {
-        let n = length as usize;
         let shown = ti_common::output::say_shown(output, CONTENT_LEAST) & say(b"\n");
-        let taken = shown & say_count(steps, b" steps", n) & say(b", ");
-        let made = taken & say_count(output.len(), b" bytes", ROOM_FOR_BYTE * n) & say(b"\n");
+        let taken = shown & say_count(steps, b" steps", most.steps) & say(b", ");
+        let made = taken & say_count(output.len(), b" bytes", most.bytes) & say(b"\n");
         return ti_common::written(made);
     }
     ti_common::written(say(output))
@@ -142,11 +89,11 @@ fn refuse(path: &[u8], name: &[u8], sentence: &[u8], number: u8) -> Status {
     ti_refusals::end(number)
 }
 
-// Writes what expanding a string of so many bytes gave, or says the refusal.
+// Writes what expanding a string gave, or says the refusal.
 fn say_expansion(
     path: &[u8],
     name: &[u8],
-    length: u16,
+    most: Bounds,
     out: &[u8],
     answer: Expansion,
     is_verbose: bool,
@@ -155,13 +102,13 @@ fn say_expansion(
     match answer {
         Expansion::Done { length: n, steps } => {
             let k = ti_common::part(n, out);
-            say_output(&out[..k], steps, length, is_verbose)
+            say_output(&out[..k], steps, most, is_verbose)
         }
         Expansion::Place => refuse(path, name, b": the place is beyond the edition", number),
         Expansion::Length => refuse(
             path,
             name,
-            b": the string is longer than 1,000 bytes",
+            b": the string or a text is longer than 1,000 bytes",
             number,
         ),
         Expansion::Malformed(i) => refuse_at(
@@ -185,6 +132,13 @@ fn say_expansion(
             number,
             i,
         ),
+        Expansion::Kind(i) => refuse_at(
+            path,
+            name,
+            b": an item takes a value of the other kind, a number or a text",
+            number,
+            i,
+        ),
         Expansion::Room(n) => ti_refusals::refuse_room(path, n, number),
     }
 }
@@ -204,18 +158,25 @@ fn expand_string(
     opened: Opened,
     name: &[u8],
     place: Place,
-    values: [i32; 9],
+    arguments: [Argument; 9],
+    texts: &[u8],
     is_verbose: bool,
 ) -> Status
     requires { ⌜ saysOpened opened ≡ opening edition (now file) ⌝ }
 {
     let mut out = [0u8; OUTPUT_ROOM];
-    let length = opened::string_length(file, edition, opened, place);
-    match opened::expand_opened(file, edition, opened, place, values, &mut out, 0) {
+    let most = opened::bounds_at(
+        file,
+        edition,
+        opened,
+        place,
+        ti_arguments::longest(arguments),
+    );
+    match opened::expand_opened(file, edition, opened, place, arguments, texts, &mut out, 0) {
         ExpandedString::Absent => refuse_state(path, name, b" is absent\n"),
         ExpandedString::Cancelled => refuse_state(path, name, b" is cancelled\n"),
         ExpandedString::Expansion(answer) => {
-            say_expansion(path, name, length, &out, answer, is_verbose)
+            say_expansion(path, name, most, &out, answer, is_verbose)
         }
     }
 }
@@ -237,7 +198,8 @@ fn expand_named(
     edition: Edition,
     opened: Opened,
     name: &[u8],
-    values: [i32; 9],
+    arguments: [Argument; 9],
+    texts: &[u8],
     is_verbose: bool,
 ) -> Status
     requires { ⌜ saysOpened opened ≡ opening edition (now file) ⌝ }
@@ -246,7 +208,17 @@ fn expand_named(
     let number = refusal_numbers::of_found_string(found);
     match found {
         Found::String(place) => {
-            expand_string(path, file, edition, opened, name, place, values, is_verbose)
+            expand_string(
+                path,
+                file,
+                edition,
+                opened,
+                name,
+                place,
+                arguments,
+                texts,
+                is_verbose,
+            )
         },
         Found::Boolean(_) => refuse_kind(path, name, b" is a boolean", number),
         Found::Number(_) => refuse_kind(path, name, b" is a number", number),
@@ -260,12 +232,24 @@ fn expand_file(
     file: &[u8],
     edition: Edition,
     name: &[u8],
-    values: [i32; 9],
+    arguments: [Argument; 9],
+    texts: &[u8],
     is_verbose: bool,
 ) -> Status {
     let opened = ti_refusals::open(path, file, edition);
     match opened {
-        Opened::Entry(_, _) => expand_named(path, file, edition, opened, name, values, is_verbose),
+        Opened::Entry(_, _) => {
+            expand_named(
+                path,
+                file,
+                edition,
+                opened,
+                name,
+                arguments,
+                texts,
+                is_verbose,
+            )
+        },
         Opened::Refused(_) => Status::Refused,
     }
 }
@@ -275,7 +259,8 @@ fn expand_from(
     path: &[u8],
     edition: Edition,
     name: &[u8],
-    values: [i32; 9],
+    arguments: [Argument; 9],
+    texts: &[u8],
     is_verbose: bool,
 ) -> Status {
     let mut file = [0u8; FILE_ROOM];
@@ -284,17 +269,25 @@ fn expand_from(
         return Status::Failed;
     }
     let k = ti_common::part(got.length, &file);
-    expand_file(path, &file[..k], edition, name, values, is_verbose)
+    expand_file(
+        path,
+        &file[..k],
+        edition,
+        name,
+        arguments,
+        texts,
+        is_verbose,
+    )
 }
 
-// Takes the file, the capability and the numbers.
-fn expand_operands(operands: Words, edition: Edition, is_verbose: bool) -> Status {
-    let first = operands.first as usize;
-    if !(are_three(first + 2) & are_three(first + 5) & are_three(first + 8)) {
-        complain(b"ti: a number is decimal, from -2147483648 to 2147483647\n");
-        return Status::Failed;
-    }
-    let values = numbers_from(first + 2);
+// Takes the file and the capability.
+fn expand_with(
+    operands: Words,
+    edition: Edition,
+    arguments: [Argument; 9],
+    texts: &[u8],
+    is_verbose: bool,
+) -> Status {
     let mut path = io::buffer();
     let mut name = io::buffer();
     let named = ti_common::words::operand(operands, 0, &mut path);
@@ -304,7 +297,25 @@ fn expand_operands(operands: Words, edition: Edition, is_verbose: bool) -> Statu
     }
     let m = named.length;
     let n = asked.length;
-    expand_from(&path[..m], edition, &name[..n], values, is_verbose)
+    expand_from(
+        &path[..m],
+        edition,
+        &name[..n],
+        arguments,
+        texts,
+        is_verbose,
+    )
+}
+
+// Takes the arguments, then the file and the capability.
+fn expand_operands(operands: Words, edition: Edition, is_verbose: bool) -> Status {
+    let mut texts = [0u8; TEXTS_ROOM];
+    let given = ti_arguments::take(operands.first as usize + 2, &mut texts);
+    if !given.ok {
+        return Status::Failed;
+    }
+    let arguments = given.arguments;
+    expand_with(operands, edition, arguments, &texts, is_verbose)
 }
 
 // Takes the operands, if there are as many as there may be.

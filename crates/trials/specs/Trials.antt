@@ -22,8 +22,10 @@ use Rattle.expansion.specs.Items.{singles, found, argumentAt, quotedAt, decimal
 use Rattle.expansion.specs.Items.{formatAt, widthAt, percentAt, itemAt}
 use Rattle.expansion.specs.Form.{classOf, classAt, afterIf, afterThen, afterElse, afterEnd, nesting, formFrom, formOf}
 use Rattle.expansion.specs.Print.{digitsFrom, digits, numeral, printed}
-use Rattle.expansion.specs.Machine.{applied, inverted, loaded, stored, incremented, arity, effect}
+use Rattle.expansion.specs.Machine.{applied, inverted, loaded, stored, raised, incremented, arity, popsText, otherKind}
+use Rattle.expansion.specs.Machine.{effect}
 use Rattle.expansion.specs.Machine.{performed, taking, passing, passed, running, run}
+use Rattle.expansion.specs.Arguments.{numbersGiven}
 use Rattle.expansion.specs.Expanding.{Expanding, ended, formed, expanding}
 use Rattle.entry.specs.Asking.{opening, asking, askingNumber}
 use Rattle.base.specs.Loop.{turns, loop}
@@ -62,7 +64,7 @@ content t = Strings.readBytes (Strings.readAt t 0)
 
 -- a string expanded with two arguments, the others 0, into 100 bytes
 abbrev pub at : List ℕ → ℤ → ℤ → Answer Expanding
-at s a b = expanding s (a ∷ b ∷ replicate 7 (pos 0)) (replicate 26 (pos 0)) 100 0
+at s a b = expanding s (numbersGiven (a ∷ b ∷ replicate 7 (pos 0))) [] (replicate 26 (pos 0)) 100 0
 
 -- a refusal's number and values; or 0 and the output
 abbrev pub output : Answer Expanding → List ℕ
@@ -122,8 +124,8 @@ unfolding trials ascii opening okEdition reading sizesOf word okCounts okNames s
     okNumbers okSlot okStrings asking numberIn slotIn slotOf low32 wrap add subtract multiply divide remainder
     singles found argumentAt quotedAt decimal bracedAt storeAt loadAt formatAt widthAt percentAt itemAt classOf
     classAt afterIf afterThen afterElse afterEnd nesting formFrom formOf digitsFrom digits numeral printed
-    applied inverted character loaded stored incremented arity effect performed taking passing passed running
-    run ended formed expanding turns loop Bytes.isBlank Bytes.digitOf Bytes.isIn Bytes.runEnd Strings.letterOf
-    Strings.octalOf Strings.escapeAt Strings.isControl Strings.caretAt Strings.lineEndAt Strings.stringItemAt
-    Strings.storedByte Strings.readTurn Strings.readFrom Strings.readBytes
+    applied inverted character loaded stored raised incremented arity popsText otherKind effect performed taking
+    passing passed running run ended formed expanding turns loop Bytes.isBlank Bytes.digitOf Bytes.isIn Bytes.runEnd
+    Strings.letterOf Strings.octalOf Strings.escapeAt Strings.isControl Strings.caretAt Strings.lineEndAt
+    Strings.stringItemAt Strings.storedByte Strings.readTurn Strings.readFrom Strings.readBytes
 trials-hold = refl

@@ -5,7 +5,8 @@ ghost use mathlib.Core.List.{List};
 ghost use Prim.Native.Nat.{_-_};
 ghost use lib.IntN.{ℤ, pos};
 ghost use lib.ListN.{getD, set};
-ghost use Rattle.expansion.specs.Machine.{Value, loaded, stored};
+ghost use Rattle.expansion.specs.Values.{Value};
+ghost use Rattle.expansion.specs.Machine.{loaded, stored};
 ghost use Rattle.variables.specs.Machines.{machine};
 
 // How far a letter stands behind the first one.
@@ -33,7 +34,7 @@ fn set_value(values: &mut [i32], k: usize, v: i32)
 
 // `%g`
 pub fn load(locals: &[i32; 26], lasting: &[i32; 26], c: u8) -> i32
-    ensures { λ r. ⌜ ((stack : List Value) (arguments : List ℤ)
+    ensures { λ r. ⌜ ((stack arguments : List Value)
         → r ≡ loaded (machine stack arguments (now (locals .entry)) (now (lasting .entry))) c) ⌝ }
 {
     if c <= b'Z' {
@@ -45,7 +46,7 @@ pub fn load(locals: &[i32; 26], lasting: &[i32; 26], c: u8) -> i32
 
 // `%P`
 pub fn store(locals: &mut [i32; 26], lasting: &mut [i32; 26], c: u8, v: i32)
-    ensures { λ _. ⌜ ((stack : List Value) (arguments : List ℤ)
+    ensures { λ _. ⌜ ((stack arguments : List Value)
         → machine stack arguments (now (locals .exit)) (now (lasting .exit)) ≡ stored
         (machine stack arguments (now (locals .entry)) (now (lasting .entry))) c v) ⌝ }
 {

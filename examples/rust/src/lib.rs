@@ -306,37 +306,99 @@ impl Lasting {
     }
 }
 
-/// What an expansion gives: the bytes, of which none is 0, and how many items were taken.
+/// What an expansion gives: the bytes, of which none is 0 unless one of a text is, and how many items
+/// were taken.
 #[derive(Clone, Debug, PartialEq, Eq)]
 pub struct Expanded {
     pub bytes: Vec<u8>,
     pub steps: usize,
 }
 
-/// How many bytes `expand` gives at most for a string of this length.
-pub const fn expand_room(length: usize) -> usize {
-    length.saturating_mul(25)
+/// One of the nine arguments of an expansion.
+#[derive(Clone, Copy, Debug, PartialEq, Eq)]
+pub enum Argument<'a> {
+    Number(i32),
+    /// At most 1,000 bytes of any value.
+    Text(&'a [u8]),
 }
 
-/// Expands a parameterized string. A refused expansion leaves the lasting variables as they were. The
-/// steps are at most as many as the string has bytes, the bytes at most `expand_room` of its length.
+/// The number 0.
+impl Default for Argument<'_> {
+    fn default() -> Self {
+        Argument::Number(0)
+    }
+}
+
+/// How many bytes `expand` gives at most for a string of this length.
+pub const fn expand_room(length: usize) -> usize {
+    expand_texts_room(length, 0)
+}
+
+/// How many bytes `expand_texts` gives at most for a string of this length with so many `%s` items.
+pub const fn expand_texts_room(length: usize, texts: usize) -> usize {
+    length.saturating_mul(25).saturating_add(texts.saturating_mul(1000))
+}
+
+/// Expands a parameterized string with nine numbers. A refused expansion leaves the lasting variables
+/// as they were. The steps are at most as many as the string has bytes, the bytes at most
+/// `expand_room` of its length. A `%s` or `%l` that is reached is refused (15, 21).
 pub fn expand(
     string: &[u8], arguments: [i32; 9], lasting: &mut Lasting,
 ) -> Result<Expanded, Refusal> {
-    let mut bytes = vec![0; string.len()];
+    expanded(string.len(), |bytes| unsafe {
+        raw::terminfo_expand(
+            string.as_ptr(),
+            string.len(),
+            &arguments,
+            &mut lasting.0,
+            bytes.as_mut_ptr(),
+            bytes.len(),
+            0,
+        )
+    })
+}
+
+/// Expands a parameterized string with nine numbers and texts, as `expand` does with numbers: `%s`
+/// prints a text, `%l` gives its length. A text of more than 1,000 bytes is refused (1), used or not,
+/// and so is an item that takes a value of the other kind (21). The bytes are at most
+/// `expand_texts_room` of the string's length and its `%s` items.
+pub fn expand_texts(
+    string: &[u8], arguments: [Argument; 9], lasting: &mut Lasting,
+) -> Result<Expanded, Refusal> {
+    let (mut kinds, mut numbers) = ([0; 9], [0; 9]);
+    let (mut starts, mut lengths, mut texts) = ([0; 9], [0; 9], Vec::new());
+    for (i, argument) in arguments.into_iter().enumerate() {
+        match argument {
+            Argument::Number(number) => numbers[i] = number,
+            Argument::Text(text) => {
+                (kinds[i], starts[i], lengths[i]) = (1, texts.len(), text.len());
+                texts.extend_from_slice(text);
+            }
+        }
+    }
+    expanded(string.len() + texts.len(), |bytes| unsafe {
+        raw::terminfo_expand_texts(
+            string.as_ptr(),
+            string.len(),
+            &kinds,
+            &numbers,
+            &starts,
+            &lengths,
+            texts.as_ptr(),
+            texts.len(),
+            &mut lasting.0,
+            bytes.as_mut_ptr(),
+            bytes.len(),
+            0,
+        )
+    })
+}
+
+/// What a call expands into a buffer, first of this length, then of the one that it needs.
+fn expanded(length: usize, mut call: impl FnMut(&mut [u8]) -> u64) -> Result<Expanded, Refusal> {
+    let mut bytes = vec![0; length];
     loop {
-        let answer = raw::given(unsafe {
-            raw::terminfo_expand(
-                string.as_ptr(),
-                string.len(),
-                &arguments,
-                &mut lasting.0,
-                bytes.as_mut_ptr(),
-                bytes.len(),
-                0,
-            )
-        });
-        match answer {
+        match raw::given(call(&mut bytes)) {
             Err(Refusal::Room { needed }) => bytes.resize(needed, 0),
             Err(refusal) => return Err(refusal),
             Ok(answer) => {

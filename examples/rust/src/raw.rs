@@ -54,6 +54,12 @@ extern "C" {
         string: *const u8, string_length: usize, arguments: *const [i32; 9],
         lasting: *mut [i32; 26], buffer: *mut u8, buffer_length: usize, at: usize,
     ) -> u64;
+    pub fn terminfo_expand_texts(
+        string: *const u8, string_length: usize, kinds: *const [u8; 9], numbers: *const [i32; 9],
+        starts: *const [usize; 9], lengths: *const [usize; 9], texts: *const u8,
+        texts_length: usize, lasting: *mut [i32; 26], buffer: *mut u8, buffer_length: usize,
+        at: usize,
+    ) -> u64;
 }
 
 /// What a call gives, or its refusal.

@@ -6,7 +6,7 @@ use std::fmt;
 /// its first offending byte or slot.
 #[derive(Clone, Copy, Debug, PartialEq, Eq)]
 pub enum Refusal {
-    /// 1: a file, a text or a string to expand has a wrong length.
+    /// 1: a file, a source text, a string to expand or a text among its arguments has a wrong length.
     Length,
     /// 2: a file does not begin with the magic number 282.
     Magic,
@@ -45,6 +45,8 @@ pub enum Refusal {
     Circular { at: usize },
     /// 20: the ninth use of a chain.
     NinthUse { at: usize },
+    /// 21: an item takes a value of the other kind, a number or a text.
+    Kind { at: usize },
 }
 
 impl Refusal {
@@ -69,6 +71,7 @@ impl Refusal {
             18 => Refusal::NotFound { at: given },
             19 => Refusal::Circular { at: given },
             20 => Refusal::NinthUse { at: given },
+            21 => Refusal::Kind { at: given },
             _ => unreachable!("the library gives no refusal {number}"),
         }
     }
@@ -95,10 +98,11 @@ impl Refusal {
             Refusal::NotFound { .. } => 18,
             Refusal::Circular { .. } => 19,
             Refusal::NinthUse { .. } => 20,
+            Refusal::Kind { .. } => 21,
         }
     }
 
-    /// The place that is given with a file's refusals 4 to 7, and with 10 to 16 and 18 to 20.
+    /// The place that is given with a file's refusals 4 to 7, and with 10 to 16 and 18 to 21.
     pub fn at(self) -> Option<usize> {
         match self {
             Refusal::Names { at: 0 } => None,
@@ -114,7 +118,8 @@ impl Refusal {
             | Refusal::StackFull { at }
             | Refusal::NotFound { at }
             | Refusal::Circular { at }
-            | Refusal::NinthUse { at } => Some(at),
+            | Refusal::NinthUse { at }
+            | Refusal::Kind { at } => Some(at),
             _ => None,
         }
     }
@@ -144,6 +149,7 @@ impl fmt::Display for Refusal {
             Refusal::NotFound { .. } => "no description has the name",
             Refusal::Circular { .. } => "a chain of uses comes back",
             Refusal::NinthUse { .. } => "the ninth use of a chain",
+            Refusal::Kind { .. } => "an item takes a value of the other kind, a number or a text",
         };
         write!(f, "{sentence} (refusal {}", self.number())?;
         match (self, self.at()) {

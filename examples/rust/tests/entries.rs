@@ -5,6 +5,7 @@ const ACT4: &[u8] = include_bytes!("../../act4.ti");
 const CONSOLE: &[u8] = include_bytes!("../../console.ti");
 const ONE_WAY: &[u8] = include_bytes!("../../one-way.ti");
 const FAMILY: &[u8] = include_bytes!("../../family.ti");
+const HPTERM: &[u8] = include_bytes!("../../hpterm.ti");
 
 fn boolean(name: &str) -> BooleanPlace {
     match find(name.as_bytes(), Edition::SECOND) {
@@ -261,6 +262,51 @@ fn strings_are_expanded() {
     assert_eq!(expanded(&[b'a'; 1001], &[]), Err(Refusal::Length));
 }
 
+/// Expands with these arguments, the others 0.
+fn with_texts(string: &[u8], first: &[Argument]) -> Result<(Vec<u8>, usize), Refusal> {
+    let mut all = [Argument::default(); 9];
+    all[..first.len()].copy_from_slice(first);
+    let done = expand_texts(string, all, &mut Lasting::default())?;
+    Ok((done.bytes, done.steps))
+}
+
+#[test]
+fn strings_are_expanded_with_texts() -> Result<(), Refusal> {
+    use Argument::{Number, Text};
+    let file = compile_first(HPTERM, Edition::SECOND)?;
+    let entry = Entry::open(&file, Edition::SECOND)?;
+    let State::Present(pfkey) = entry.string(string("pfkey"))? else { panic!() };
+    let programmed = with_texts(pfkey, &[Number(1), Text(b"make all\r")])?;
+    assert_eq!(programmed, (b"\x1b&f1k9Lmake all\r".to_vec(), 12));
+    assert_eq!(with_texts(b"%p2%s%p1%s", &[Text(b"a\0"), Text(b"bc")])?.0, b"bca\0");
+    assert_eq!(with_texts(b"%i%p1%s%p2%d", &[Text(b"x"), Number(7)])?.0, b"x8");
+    assert_eq!(with_texts(b"%p1%s%p9%l%d", &[Text(b"")]), Err(Refusal::Kind { at: 8 }));
+    assert_eq!(with_texts(b"%p1%s%p1%l%d", &[Text(b"")])?, (b"0".to_vec(), 5));
+    assert_eq!(with_texts(b"%p1%d", &[Text(b"5")]), Err(Refusal::Kind { at: 3 }));
+    assert_eq!(with_texts(b"%p1%+", &[Text(b"5")]), Err(Refusal::StackEmpty { at: 3 }));
+    assert_eq!(with_texts(b"%p1%5s", &[Text(b"5")]), Err(Refusal::Expansion { at: 3 }));
+    assert_eq!(expanded(pfkey, &[1]), Err(Refusal::Kind { at: 12 }));
+    assert_eq!(expanded(b"%s", &[]), Err(Refusal::StackEmpty { at: 0 }));
+    let (most, more) = ([b'x'; 1000], [b'x'; 1001]);
+    assert_eq!(with_texts(b"%p1%s", &[Text(&most)])?.0, most);
+    assert_eq!(with_texts(b"", &[Number(0), Text(&more)]), Err(Refusal::Length));
+    for string in [&b"%i%p1%d"[..], b"%p1%99d", b"%", b"%+", b"%?%p2%t%s%;"] {
+        assert_eq!(with_texts(string, &[Number(5)]), expanded(string, &[5]));
+    }
+    Ok(())
+}
+
+#[test]
+fn an_expansion_with_texts_is_within_its_bounds() {
+    const ROOM: usize = expand_texts_room(1000, 200);
+    let (string, text) = (b"%p1%s".repeat(200), [b'x'; 1000]);
+    assert_eq!((string.len(), ROOM, expand_texts_room(1000, 500)), (1000, 225_000, 525_000));
+    let (bytes, steps) = with_texts(&string, &[Argument::Text(&text)]).unwrap();
+    assert_eq!((bytes.len(), steps), (200_000, 400));
+    assert_eq!(expand_texts_room(7, 0), expand_room(7));
+    assert_eq!(expand_texts_room(usize::MAX, 1), usize::MAX);
+}
+
 #[test]
 fn an_expansion_is_within_its_bounds() {
     const ROOM: usize = expand_room(994);
@@ -295,6 +341,10 @@ fn a_refusal_says_what_it_is() {
     assert_eq!(
         Refusal::Room { needed: 5 }.to_string(),
         "too little room (refusal 8, 5 bytes are needed)"
+    );
+    assert_eq!(
+        Refusal::Kind { at: 3 }.to_string(),
+        "an item takes a value of the other kind, a number or a text (refusal 21, byte 3)"
     );
     assert_eq!((Refusal::Place.number(), Refusal::Place.at()), (17, None));
     assert_eq!((Refusal::Names { at: 43 }.at(), Refusal::Names { at: 0 }.at()), (Some(43), None));

@@ -1,35 +1,33 @@
--- `expand::expand_lent` meets its contract: its tests stand in the definition's order, and the part that is lent is the buffer from the place on.
+-- `expand::expand_lent` meets its contract: its tests stand in the definition's order, and numbers pass the tests of texts.
 -- Assumes nothing.
-use mathlib.Core.Path.{refl}
-use lib.ListN.{length}
+use mathlib.Core.List.{[]}
 use borrow.Author.Needs.{needs}
-use borrow.Author.Tests.{le-leb, lt-leb}
-use Rattle.expansion.specs.Limits.{stringMost}
-use Rattle.expansion.specs.Form.{formOf}
-use Rattle.expansion.specs.Machine.{run}
-use Rattle.expansion.specs.Expanding.{expanding}
-use Rattle.expand_output.proofs.AnswerLaws.{answer-part}
+use Rattle.expansion.specs.Arguments.{numbersGiven}
+use Rattle.arguments.proofs.Laws.{numbers-lie, numbers-short, numbers-judged, numbers-longer}
+use Rattle.expand.proofs.Laws as L
 use Rattle.expand.proofs.expand_lent.Statement.{statement}
 use Rattle.expand.proofs.expand_lent.Tie as tie
 
 returns : tie.Need-returns
-unfolding expanding
 returns c =
     let a = c .before .before .before .args in
-    rw (lt-leb (a .at) (length (a .out .now)) (c .if1 .taken)) (record { answer = refl; lasting = refl; output = refl; within = tt })
+    L.place-refused _ (a .string .now) (numbersGiven (a .arguments)) [] (a .lasting .now) (a .out .now) (a .at) (c .if1 .taken)
 
 returns-2 : tie.Need-returns-2
-unfolding expanding
 returns-2 c =
     let a = c .before .before .before .before .args in
-    rw (le-leb (a .at) (length (a .out .now)) (c .before .if1 .left), lt-leb (length (a .string .now)) stringMost (c .if2 .taken)) (record { answer = refl; lasting = refl; output = refl; within = tt })
+    L.length-refused _ (a .string .now) (numbersGiven (a .arguments)) [] (a .lasting .now) (a .out .now) (a .at) (c .before .if1 .left) (numbers-lie [] (a .arguments)) (c .if2 .taken)
+
+expand-judged-requires : tie.Need-expand-judged-requires
+expand-judged-requires c κs =
+    let a = c .before .before .before .before .before .before .before .before .args in
+    (c .before .before .before .before .before .if1 .left, c .before .before .before .before .if2 .left, rw (c .before .before .before .numbers .ensures) (numbers-judged [] (a .arguments)))
 
 returns-3 : tie.Need-returns-3
-unfolding expanding
 returns-3 c =
     let a = c .before .before .before .before .before .before .before .before .before .before .before .args in
-    rw (le-leb (a .at) (length (a .out .now)) (c .before .before .before .before .before .before .before .before .if1 .left), le-leb (length (a .string .now)) stringMost (c .before .before .before .before .before .before .before .if2 .left))
-    (answer-part (formOf (a .string .now)) (run (a .string .now) (a .arguments) (a .lasting .now)) (a .out .now) (a .at) (c .before .before .before .before .before .before .before .before .if1 .left) (c .before .before .before .expand-into .ensures))
+    L.run-answers _ (a .string .now) (numbersGiven (a .arguments)) [] (a .lasting .now) (a .out .now) (a .at) (c .before .before .before .before .before .before .before .before .if1 .left) (numbers-lie [] (a .arguments)) (c .before .before .before .before .before .before .before .if2 .left) (numbers-short (a .arguments))
+    (rw (L.no-texts (a .string .now), c .before .before .before .before .before .before .numbers .ensures) at (c .before .before .expand-judged .ensures 0 (rw (c .before .before .before .before .before .before .numbers .ensures) (numbers-longer 0 (a .arguments)))))
 
 pub expand-lent-spec : {M : Type 1} → statement M
 expand-lent-spec =
@@ -37,10 +35,8 @@ expand-lent-spec =
     (tie.spec
     returns
     returns-2
-    (λ c. search needs)
-    (λ c. search needs)
-    (λ c. search needs)
-    (λ c. search needs)
     (λ c κs. search needs)
+    (λ c. search needs)
+    expand-judged-requires
     (λ c. search needs)
     returns-3)

@@ -14,7 +14,7 @@ enum-told : tie.Need-enum-told
 enum-told c = search needs
 
 expand-right-requires : tie.Need-expand-right-requires
-expand-right-requires c κs = (c .before .before .before .before .before .before .before .before .before .pre, sym (c .before .before .before .before .before .form-of .ensures) ∙ c .before .before .before .enum-told .given .1)
+expand-right-requires c κs = (c .before .before .before .before .before .before .before .before .before .before .pre .0, sym (c .before .before .before .before .before .form-of .ensures) ∙ c .before .before .before .enum-told .given .1, c .before .before .before .before .before .before .before .before .before .before .pre .1)
 
 enum-known-p : tie.Need-enum-known-p
 enum-known-p c = search needs
@@ -30,7 +30,7 @@ unfolding formed
 returns c = rw (sym (c .before .before .before .before .before .before .before .before .before .before .form-of .ensures) ∙ c .before .before .before .before .before .before .before .before .enum-told .given .1) (c .before .before .before .before .expand-right .ensures)
 
 returns-2 : tie.Need-returns-2
-returns-2 c = answer-malformed (c .before .before .before .before .before .before .before .args .s .now) _ _ _ (sym (c .before .before .before .form-of .ensures) ∙ c .before .p .given .1)
+returns-2 c most j = answer-malformed (c .before .before .before .before .before .before .before .before .args .s .now) _ _ _ (sym (c .before .before .before .form-of .ensures) ∙ c .before .p .given .1)
 
 pub expand-into-spec : {M : Type 1} → statement M
 expand-into-spec =

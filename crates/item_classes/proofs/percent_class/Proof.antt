@@ -21,10 +21,10 @@ abbrev first : List ℕ
 first = 33 ∷ 37 ∷ 88 ∷ 99 ∷ 105 ∷ 111 ∷ 120 ∷ 126 ∷ []
 
 abbrev second : List ℕ
-second = 43 ∷ 45 ∷ 47 ∷ 61 ∷ 94 ∷ 109 ∷ 124 ∷ []
+second = 43 ∷ 45 ∷ 47 ∷ 61 ∷ 94 ∷ 109 ∷ 115 ∷ 124 ∷ []
 
 abbrev third : List ℕ
-third = 38 ∷ 42 ∷ 60 ∷ 62 ∷ 65 ∷ 79 ∷ 100 ∷ []
+third = 38 ∷ 42 ∷ 60 ∷ 62 ∷ 65 ∷ 79 ∷ 100 ∷ 108 ∷ []
 
 -- `%` and x are a plain item
 abbrev IsPlain : List ℕ → ℕ → ℕ → Type 0
@@ -59,8 +59,8 @@ percent-class-spec =
     (λ c. c .constant-class .ensures ∙ ap itemClass (percent-byte _ _ (c .before .before .byte-at .ensures) 123 (c .before .match .keys3)))
     (λ c. ⊎-elim (λ q. c .variable-class .ensures .0 ∙ ap itemClass (percent-byte _ _ (c .before .before .byte-at .ensures) 80 q)) (λ q. c .variable-class .ensures .1 ∙ ap itemClass (percent-byte _ _ (c .before .before .byte-at .ensures) 103 q)) (c .before .match .keys4))
     (λ c. plain first (λ s j. (refl, (refl, (refl, (refl, (refl, (refl, (refl, (refl, tt))))))))) _ _ (c .before .before .byte-at .result) (c .classed .ensures) (c .before .before .byte-at .ensures) (c .before .match .keys5))
-    (λ c. plain second (λ s j. (refl, (refl, (refl, (refl, (refl, (refl, (refl, tt)))))))) _ _ (c .before .before .byte-at .result) (c .classed2 .ensures) (c .before .before .byte-at .ensures) (c .before .match .keys6))
-    (λ c. plain third (λ s j. (refl, (refl, (refl, (refl, (refl, (refl, (refl, tt)))))))) _ _ (c .before .before .byte-at .result) (c .classed3 .ensures) (c .before .before .byte-at .ensures) (c .before .match .keys7))
+    (λ c. plain second (λ s j. (refl, (refl, (refl, (refl, (refl, (refl, (refl, (refl, tt))))))))) _ _ (c .before .before .byte-at .result) (c .classed2 .ensures) (c .before .before .byte-at .ensures) (c .before .match .keys6))
+    (λ c. plain third (λ s j. (refl, (refl, (refl, (refl, (refl, (refl, (refl, (refl, tt))))))))) _ _ (c .before .before .byte-at .result) (c .classed3 .ensures) (c .before .before .byte-at .ensures) (c .before .match .keys7))
     (λ c. c .classed4 .ensures ∙ ap itemClass (percent-byte _ _ (c .before .before .byte-at .ensures) 63 (c .before .match .keys8)))
     (λ c. c .classed5 .ensures ∙ ap itemClass (percent-byte _ _ (c .before .before .byte-at .ensures) 116 (c .before .match .keys9)))
     (λ c. c .classed6 .ensures ∙ ap itemClass (percent-byte _ _ (c .before .before .byte-at .ensures) 101 (c .before .match .keys10)))

@@ -1,10 +1,9 @@
 -- `items::braced_at` meets its contract. The loop's invariant: the digits from here on, behind the value so far, are the constant.
 -- Since it is right, it has a digit or `}` here, and the value is no larger than a constant. The measure is what is left of the string.
 -- Assumes nothing.
-use mathlib.Core.Path.{_≡_, ap, _∙_}
+use mathlib.Core.Path.{_≡_, ap}
 use Prim.Native.Nat.{_+_, _-_, _*_, _≤_, _<_}
 use native.Mathlib.Omega.{arith}
-use borrow.Author.Needs.{needs}
 use lib.ListN.{length}
 use mir.Syntax.{w32}
 use mir.Facts.{toZ-pos}
@@ -23,20 +22,19 @@ abbrev μ-loop : tie.MeasureT-loop
 μ-loop s j i₀ v₀ i v = length s - i
 
 -- what is known at the loop's head
-inside : (c : tie.At-loop Inv-loop μ-loop) → c .loop .i < length (c .before .before .args .s .now)
-inside c = let b = c .before .before in digits-inside (b .args .s .now) (b .args .j) (c .loop .i) (c .loop .v) (b .pre) (c .loop .inv)
+inside : (c : tie.At-loop Inv-loop μ-loop) → c .loop .i < length (c .before .args .s .now)
+inside c = let b = c .before in digits-inside (b .args .s .now) (b .args .j) (c .loop .i) (c .loop .v) (b .pre) (c .loop .inv)
 
 value : (c : tie.At-loop Inv-loop μ-loop) → c .loop .v ≤ constantMost
-value c = let b = c .before .before in digits-value (b .args .s .now) (b .args .j) (c .loop .i) (c .loop .v) (b .pre) (c .loop .inv)
+value c = let b = c .before in digits-value (b .args .s .now) (b .args .j) (c .loop .i) (c .loop .v) (b .pre) (c .loop .inv)
 
 add-i : tie.Need-add-i Inv-loop μ-loop
 add-i c =
-    let b = c .before in
-    let h = digits-inside (b .args .s .now) (b .args .j) (b .args .j + 1) 0 (b .pre) (braced-start (b .args .s .now) (b .args .j)) in
+    let h = digits-inside (c .args .s .now) (c .args .j) (c .args .j + 1) 0 (c .pre) (braced-start (c .args .s .now) (c .args .j)) in
     omega arith
 
 loop-holds : tie.Need-loop-holds Inv-loop μ-loop
-loop-holds c = braced-start (c .before .args .s .now) (c .before .args .j)
+loop-holds c = braced-start (c .args .s .now) (c .args .j)
 
 shared-slice-read-if1 : tie.Need-shared-slice-read-if1 Inv-loop μ-loop
 shared-slice-read-if1 c = inside (c .before)
@@ -48,21 +46,21 @@ shared-slice-read-v : tie.Need-shared-slice-read-v Inv-loop μ-loop
 shared-slice-read-v c = inside (c .before .before .before)
 
 -- a digit at hand
-digit : (c : tie.After-shared-slice-known3 Inv-loop μ-loop) →
-    let x = byteAt (c .before .before .before .before .before .args .s .now) (c .before .before .before .loop .i) in
+digit : (c : tie.After-shared-slice-known2 Inv-loop μ-loop) →
+    let x = byteAt (c .before .before .before .before .args .s .now) (c .before .before .before .loop .i) in
     (48 ≤ x) × (x ≤ 57)
 digit c =
     let l = c .before .before .before in
-    let b = l .before .before in
+    let b = l .before in
     digits-first (b .args .s .now) (b .args .j) (l .loop .i) (l .loop .v) (b .pre) (l .loop .inv) (c .before .if1 .taken)
 
-turn : (c : tie.After-shared-slice-known3 Inv-loop μ-loop) →
-    let a = c .before .before .before .before .before .args in
+turn : (c : tie.After-shared-slice-known2 Inv-loop μ-loop) →
+    let a = c .before .before .before .before .args in
     let l = c .before .before .before .loop in
     bracedAt (a .s .now) (a .j) ≡ bracedFrom (a .s .now) (a .j) (l .i + 1) (l .v * 10 + (byteAt (a .s .now) (l .i) - 48))
 turn c =
     let l = c .before .before .before in
-    let b = l .before .before in
+    let b = l .before in
     digits-step (b .args .s .now) (b .args .j) (l .loop .i) (l .loop .v) (b .pre) (l .loop .inv) (c .before .if1 .taken)
 
 sub-v : tie.Need-sub-v Inv-loop μ-loop
@@ -89,18 +87,15 @@ loop-again c = turn c
 cast-t12 : tie.Need-cast-t12 Inv-loop μ-loop
 cast-t12 c = let h = value (c .before .before) in record { sfits = omega arith }
 
-add-other : tie.Need-add-other Inv-loop μ-loop
-add-other c = let h = inside (c .before .before) in omega arith
-
-other-requires : tie.Need-other-requires Inv-loop μ-loop
-other-requires c κs = search needs
+add-t13 : tie.Need-add-t13 Inv-loop μ-loop
+add-t13 c = let h = inside (c .before .before) in omega arith
 
 returns : tie.Need-returns Inv-loop μ-loop
 returns c =
-    let l = c .before .before .before in
-    let b = l .before .before in
+    let l = c .before .before in
+    let b = l .before in
     let h = value l in
-    c .other .ensures ∙ rw (toZ-pos w32 {n = l .loop .v} (omega arith)) (ap otherItem (digits-close (b .args .s .now) (b .args .j) (l .loop .i) (l .loop .v) (b .pre) (l .loop .inv) (c .before .if1 .left)))
+    rw (toZ-pos w32 {n = l .loop .v} (omega arith)) (ap otherItem (digits-close (b .args .s .now) (b .args .j) (l .loop .i) (l .loop .v) (b .pre) (l .loop .inv) (c .if1 .left)))
 
 pub braced-at-spec : {M : Type 1} → statement M
 braced-at-spec =
@@ -120,6 +115,5 @@ braced-at-spec =
     loop-less
     loop-again
     cast-t12
-    add-other
-    other-requires
+    add-t13
     returns)

@@ -11,7 +11,7 @@ use Rattle.expansion.specs.declared.Item.the-variants as I
 use Rattle.expansion.specs.Items.{byteAt, singles, found, argumentAt, quotedAt, percentAt, itemAt}
 use Rattle.item_parts.proofs.Cases.{percent-byte}
 use Rattle.items.specs.Parts.{Right, LeftToOther}
-use Rattle.items.proofs.Laws.{right-as, percent-inside, braced-simple, percent-simple, item-byte, item-percent, read-other, single-read, argument-digit, argument-inside, argument-read, quoted-inside, quoted-read}
+use Rattle.items.proofs.Laws.{right-as, percent-inside, braced-known, percent-known, item-byte, item-percent, read-other, single-read, argument-digit, argument-inside, argument-read, quoted-inside, quoted-read}
 use Rattle.items.proofs.item_at.Statement.{statement}
 use Rattle.items.proofs.item_at.Tie as tie
 
@@ -47,7 +47,7 @@ quote-in c =
 left : (c : tie.At-match-rest) → let a = c .before .before .before .before .before .args in LeftToOther (byteAt (a .s .now) (a .i + 1))
 left c =
     let r = c .match .rest in
-    (r .0 .0 .0 .0 .0 .0 .0 .1, (r .0 .0 .0 .0 .0 .0 .1, (r .0 .0 .0 .0 .0 .1, (r .0 .0 .0 .0 .1, (r .0 .0 .0 .1, (r .0 .0 .1, (r .0 .1, (r .1, tt))))))))
+    (r .0 .0 .0 .0 .0 .0 .0 .0 .0 .1, (r .0 .0 .0 .0 .0 .0 .0 .0 .1, (r .0 .0 .0 .0 .0 .0 .0 .1, (r .0 .0 .0 .0 .0 .0 .1, (r .0 .0 .0 .0 .0 .1, (r .0 .0 .0 .0 .1, (r .0 .0 .0 .1, (r .0 .0 .1, (r .0 .1, (r .1, tt))))))))))
 
 shared-slice-read-c : tie.Need-shared-slice-read-c
 shared-slice-read-c c = search needs
@@ -90,11 +90,8 @@ cast-t19 c =
     let h = c .shared-slice-known5 .given (c .before .before .before .before .before .before .args .i + 2) in
     record { sfits = omega arith }
 
-add-other : tie.Need-add-other
-add-other c = omega (arith, quote-in (c .before))
-
-other-requires : tie.Need-other-requires
-other-requires c κs = search needs
+add-t20 : tie.Need-add-t20
+add-t20 c = omega (arith, quote-in (c .before))
 
 add-braced-at : tie.Need-add-braced-at
 add-braced-at c = search needs
@@ -103,6 +100,11 @@ braced-at-requires : tie.Need-braced-at-requires
 braced-at-requires c κs =
     let a = c .before .before .before .before .before .args in
     right-as (percent-byte (a .s .now) (a .i + 1) refl 123 (c .match .keys3)) (right (c .before .before))
+
+condition-requires : tie.Need-condition-requires
+condition-requires c κs =
+    let b = c .before .before .before .before .before in
+    record { right = b .pre; percent = c .before .before .if1 .left; question = c .match .keys4 }
 
 add-other-at : tie.Need-add-other-at
 add-other-at c = search needs
@@ -117,22 +119,17 @@ returns-2 c =
 
 returns-3 : tie.Need-returns-3
 returns-3 c =
-    let a = c .before .before .before .before .before .before .before .args in
-    let h = c .before .shared-slice-known5 .given (a .i + 2) in
-    read-other (a .s .now) (a .i) (c .other .ensures)
-    (rw (toZ-pos w32 {n = byteAt (a .s .now) (a .i + 2)} (omega arith)) (quoted-read (a .s .now) (a .i) (quoted (c .before .before)) ∙ percent-byte (a .s .now) (a .i + 1) refl 39 (c .before .before .match .keys2) ∙ percent (c .before .before .before .before)))
-    tt
+    let a = c .before .before .before .before .before .before .args in
+    let h = c .shared-slice-known5 .given (a .i + 2) in
+    (rw (toZ-pos w32 {n = byteAt (a .s .now) (a .i + 2)} (omega arith)) (quoted-read (a .s .now) (a .i) (quoted (c .before)) ∙ percent-byte (a .s .now) (a .i + 1) refl 39 (c .before .match .keys2) ∙ percent (c .before .before .before)), tt)
 
 returns-4 : tie.Need-returns-4
 returns-4 c =
     let a = c .before .before .before .before .before .before .args in
-    read-other (a .s .now) (a .i) (c .braced-at .ensures) (percent-byte (a .s .now) (a .i + 1) refl 123 (c .before .match .keys3) ∙ percent (c .before .before .before)) (braced-simple (a .s .now) (a .i + 1))
+    read-other (a .s .now) (a .i) (c .braced-at .ensures) (percent-byte (a .s .now) (a .i + 1) refl 123 (c .before .match .keys3) ∙ percent (c .before .before .before)) (braced-known (a .s .now) (a .i) (a .i + 1))
 
 returns-5 : tie.Need-returns-5
-unfolding singles found
-returns-5 c =
-    let a = c .before .before .before .before .before .args in
-    (single-read I.If (a .i) ∙ percent-byte (a .s .now) (a .i + 1) refl 63 (c .match .keys4) ∙ percent (c .before .before), tt)
+returns-5 c = c .condition .ensures
 
 returns-6 : tie.Need-returns-6
 unfolding singles found
@@ -159,9 +156,21 @@ returns-9 c =
     (single-read I.Increment (a .i) ∙ percent-byte (a .s .now) (a .i + 1) refl 105 (c .match .keys8) ∙ percent (c .before .before), tt)
 
 returns-10 : tie.Need-returns-10
+unfolding singles found
 returns-10 c =
+    let a = c .before .before .before .before .before .args in
+    (single-read I.Text (a .i) ∙ percent-byte (a .s .now) (a .i + 1) refl 115 (c .match .keys9) ∙ percent (c .before .before), tt)
+
+returns-11 : tie.Need-returns-11
+unfolding singles found
+returns-11 c =
+    let a = c .before .before .before .before .before .args in
+    (single-read I.Length (a .i) ∙ percent-byte (a .s .now) (a .i + 1) refl 108 (c .match .keys10) ∙ percent (c .before .before), tt)
+
+returns-12 : tie.Need-returns-12
+returns-12 c =
     let a = c .before .before .before .before .before .before .args in
-    read-other (a .s .now) (a .i) (c .other-at .ensures) (percent (c .before .before .before)) (percent-simple (a .s .now) (a .i + 1) (left (c .before)))
+    read-other (a .s .now) (a .i) (c .other-at .ensures) (percent (c .before .before .before)) (percent-known (a .s .now) (a .i) (a .i + 1) (left (c .before)))
 
 pub item-at-spec : {M : Type 1} → statement M
 item-at-spec =
@@ -178,10 +187,10 @@ item-at-spec =
     add-t16
     shared-slice-read-t18
     cast-t19
-    add-other
-    other-requires
+    add-t20
     add-braced-at
     braced-at-requires
+    condition-requires
     add-other-at
     other-at-requires
     returns-2
@@ -192,4 +201,6 @@ item-at-spec =
     returns-7
     returns-8
     returns-9
-    returns-10)
+    returns-10
+    returns-11
+    returns-12)

@@ -2,7 +2,7 @@
 -- Assumes nothing.
 use mathlib.Core.Path.{_≡_, refl, ap, _∙_}
 use mathlib.Core.List.{[], _∷_}
-use Prim.Native.Nat.{ℕ, _+_}
+use Prim.Native.Nat.{ℕ}
 use lib.IntN.{ℤ}
 use mir.Facts.{toZ-ofZ}
 use borrow.Author.Needs.{needs}
@@ -11,7 +11,7 @@ use Rattle.signed.proofs.Laws.{again, called, called-two}
 use Rattle.characters.specs.Character.{character}
 use Rattle.print.specs.Emit.{emitted}
 use Rattle.expansion.specs.Machine.{effect, applied, truth, inverted, stored}
-use Rattle.machine.specs.declared.Step.the-variants.{Push, Go}
+use Rattle.machine.specs.declared.Step.the-variants.{Push}
 use Rattle.machine.specs.Steps.{stepOf, machineAfter}
 use Rattle.machine.proofs.Laws.{emitted-nothing, no-more}
 use Rattle.machine.proofs.take.Statement.{statement}
@@ -25,75 +25,73 @@ returns-2 : tie.Need-returns-2
 returns-2 c st x = absurd (rw (c .enum-told .given .1) at (c .before .before .before .pre .1))
 
 returns-3 : tie.Need-returns-3
-unfolding effect stepOf machineAfter
-returns-3 c st x =
-    let s = c .before .before .before .before .before .before .before .before in
-    let p = rw (toZ-ofZ (s .fits .b)) at (c .before .before .put-number .ensures) in
-    rw (c .before .before .before .before .before .item2 .given .1) (record { step = ap (λ (n : ℕ). Go (s .args .written + n)) (p .0); after = refl; output = p .2 })
+returns-3 c st x = absurd (rw (c .enum-told2 .given .1) at (c .before .before .before .pre .1))
 
 returns-4 : tie.Need-returns-4
 unfolding effect stepOf machineAfter
 returns-4 c st x =
     let s = c .before .before .before .before .before .before .before .before in
     let e : c .before .before .before .byte-of .result ≡ character (s .args .b) = c .before .before .before .byte-of .ensures ∙ ap character (toZ-ofZ (s .fits .b)) in
-    rw (c .before .before .before .before .before .enum-told2 .given .1) (record { step = refl; after = refl; output = c .before .before .put-byte2 .ensures ∙ ap (λ (x : ℕ). emitted (s .args .out .now) (s .args .written) (x ∷ [])) e })
+    rw (c .before .before .before .before .before .enum-told3 .given .1) (record { step = refl; after = refl; output = c .before .before .put-byte2 .ensures ∙ ap (λ (x : ℕ). emitted (s .args .out .now) (s .args .written) (x ∷ [])) e })
 
 returns-5 : tie.Need-returns-5
-unfolding effect stepOf machineAfter
-returns-5 c st x =
-    let g = c .known-told3 .given in
-    rw (c .before .item3 .given .1) (record { step = ap Push (search needs); after = refl; output = emitted-nothing _ _ })
+returns-5 c st x = absurd (rw (c .enum-told4 .given .1) at (c .before .before .before .pre .1))
 
 returns-6 : tie.Need-returns-6
-unfolding effect stepOf machineAfter
-returns-6 c st x =
-    let s = c .before .before .before .before .before .before .before in
-    rw (c .before .before .before .before .item4 .given .1) (record { step = refl; after = c .store .ensures st x ∙ ap (stored _ _) (toZ-ofZ (s .fits .b)); output = emitted-nothing _ _ })
+returns-6 c st x = absurd (rw (c .enum-told5 .given .1) at (c .before .before .before .pre .1))
 
 returns-7 : tie.Need-returns-7
-unfolding effect stepOf machineAfter
-returns-7 c st x =
-    let s = c .before .before .before .before .before .before .before in
-    rw (c .before .before .before .before .item5 .given .1) (record { step = ap Push (again _ (c .load .ok) ∙ c .load .ensures st x); after = refl; output = emitted-nothing _ _ })
+returns-7 c st x = absurd (rw (c .enum-told6 .given .1) at (c .before .before .before .pre .1))
 
 returns-8 : tie.Need-returns-8
 unfolding effect stepOf machineAfter
 returns-8 c st x =
-    let s = c .before .before .before .before .before in
-    rw (c .before .before .item6 .given .1) (record { step = ap Push (called-two (applied (c .before .before .item6 .given .0 .0)) (s .fits .a) (s .fits .b) (c .applied .ok) (c .applied .ensures)); after = refl; output = emitted-nothing _ _ })
+    let s = c .before .before .before .before .before .before .before in
+    rw (c .before .before .before .before .item2 .given .1) (record { step = refl; after = c .store .ensures st x ∙ ap (stored _ _) (toZ-ofZ (s .fits .b)); output = emitted-nothing _ _ })
 
 returns-9 : tie.Need-returns-9
 unfolding effect stepOf machineAfter
 returns-9 c st x =
-    let s = c .before .before .before .before in
-    rw (c .before .enum-told3 .given .1) (record { step = ap Push (called (λ (v : ℤ). truth (isZero v)) (s .fits .b) (c .negated .ok) (c .negated .ensures)); after = refl; output = emitted-nothing _ _ })
+    rw (c .before .before .before .before .item3 .given .1) (record { step = ap Push (again _ (c .load .ok) ∙ c .load .ensures st x); after = refl; output = emitted-nothing _ _ })
 
 returns-10 : tie.Need-returns-10
 unfolding effect stepOf machineAfter
 returns-10 c st x =
-    let s = c .before .before .before .before in
-    rw (c .before .enum-told4 .given .1) (record { step = ap Push (called inverted (s .fits .b) (c .inverted .ok) (c .inverted .ensures)); after = refl; output = emitted-nothing _ _ })
+    let s = c .before .before .before .before .before in
+    rw (c .before .before .item4 .given .1) (record { step = ap Push (called-two (applied (c .before .before .item4 .given .0 .0)) (s .fits .a) (s .fits .b) (c .applied .ok) (c .applied .ensures)); after = refl; output = emitted-nothing _ _ })
 
 returns-11 : tie.Need-returns-11
-returns-11 c st x = absurd (rw (c .enum-told5 .given .1) at (c .before .before .before .pre .1))
+unfolding effect stepOf machineAfter
+returns-11 c st x =
+    let s = c .before .before .before .before in
+    rw (c .before .enum-told7 .given .1) (record { step = ap Push (called (λ (v : ℤ). truth (isZero v)) (s .fits .b) (c .negated .ok) (c .negated .ensures)); after = refl; output = emitted-nothing _ _ })
 
 returns-12 : tie.Need-returns-12
 unfolding effect stepOf machineAfter
-returns-12 c st x = rw (c .enum-told6 .given .1) (record { step = no-more _; after = refl; output = emitted-nothing _ _ })
+returns-12 c st x =
+    let s = c .before .before .before .before in
+    rw (c .before .enum-told8 .given .1) (record { step = ap Push (called inverted (s .fits .b) (c .inverted .ok) (c .inverted .ensures)); after = refl; output = emitted-nothing _ _ })
 
 returns-13 : tie.Need-returns-13
-returns-13 c st x = absurd (rw (c .enum-told7 .given .1) at (c .before .before .before .pre .1))
+returns-13 c st x = absurd (rw (c .enum-told9 .given .1) at (c .before .before .before .pre .1))
 
 returns-14 : tie.Need-returns-14
-returns-14 c st x = absurd (rw (c .enum-told8 .given .1) at (c .before .before .before .pre .1))
+unfolding effect stepOf machineAfter
+returns-14 c st x = rw (c .enum-told10 .given .1) (record { step = no-more _; after = refl; output = emitted-nothing _ _ })
 
 returns-15 : tie.Need-returns-15
-unfolding effect stepOf machineAfter
-returns-15 c st x = rw (c .enum-told9 .given .1) (record { step = no-more _; after = refl; output = emitted-nothing _ _ })
+returns-15 c st x = absurd (rw (c .enum-told11 .given .1) at (c .before .before .before .pre .1))
 
 returns-16 : tie.Need-returns-16
+returns-16 c st x = absurd (rw (c .enum-told12 .given .1) at (c .before .before .before .pre .1))
+
+returns-17 : tie.Need-returns-17
 unfolding effect stepOf machineAfter
-returns-16 c st x = rw (c .enum-told10 .given .1) (record { step = no-more _; after = refl; output = emitted-nothing _ _ })
+returns-17 c st x = rw (c .enum-told13 .given .1) (record { step = no-more _; after = refl; output = emitted-nothing _ _ })
+
+returns-18 : tie.Need-returns-18
+unfolding effect stepOf machineAfter
+returns-18 c st x = rw (c .enum-told14 .given .1) (record { step = no-more _; after = refl; output = emitted-nothing _ _ })
 
 pub take-spec : {M : Type 1} → statement M
 take-spec =
@@ -104,11 +102,11 @@ take-spec =
     (λ c. search needs)
     (λ c. search needs)
     (λ c. search needs)
-    (λ c κs. search needs)
-    (λ c. search needs)
     (λ c. search needs)
     (λ c κs. search needs)
     (λ c κs. search needs)
+    (λ c. search needs)
+    (λ c. search needs)
     (λ c. search needs)
     (λ c. search needs)
     (λ c. search needs)
@@ -130,7 +128,6 @@ take-spec =
     (λ c. search needs)
     returns
     returns-2
-    (λ c. search needs)
     returns-3
     (λ c. search needs)
     returns-4
@@ -145,4 +142,6 @@ take-spec =
     returns-13
     returns-14
     returns-15
-    returns-16)
+    returns-16
+    returns-17
+    returns-18)

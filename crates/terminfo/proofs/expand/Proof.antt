@@ -48,6 +48,8 @@ use denote.Exit.{yes}
 use denote.Triple.Clauses.{Lasts, ensured, lasts}
 use Rattle.expansion.specs.declared.Lasting.{Lasting}
 use Rattle.expansion.specs.declared.Expanded.{Expanded}
+use Rattle.expansion.specs.Limits.{roomFor}
+use Rattle.expansion.specs.Arguments.{numbersGiven}
 use Rattle.expansion.specs.Expanding.{expanding}
 use Rattle.expansion.proofs.Lasting as L
 use Rattle.expansion.proofs.Lasting.Laws as L′
@@ -115,7 +117,7 @@ module _ {M : Type 1} (𝓤 : URA M) (H : Heap 𝓤) (A : Atoms 𝓤) (W : Given
   to = (((κ₀, (κ₂, tt)), (q₀, (q₂, tt)), tt, given, passed), tt)
 
   abbrev Claim : Expanded → List ℕ → Type 0
-  Claim r zs = ExpandedAs (length (now s)) (expanding (now s) xs (h .values) (length ys) n) (h .values) ys n zs r
+  Claim r zs = ExpandedAs (length (now s)) (roomFor (length (now s))) (expanding (now s) (numbersGiven xs) [] (h .values) (length ys) n) (h .values) ys n zs r
 
   abbrev Post : Val → SProp 𝓤
   Post = walkOf 𝓤 H A f.ended stayed (f.clauses 𝓤 H A at-mem run) .post (((κ₀, (κ₁, (κ₂, tt))), (q₀, (q₁, (q₂, tt))), tt, x, at), tt)
