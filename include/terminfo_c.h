@@ -498,7 +498,7 @@ uint64_t terminfo_expand(const uint8_t *string, size_t string_length, const int3
  * expansion stops; of one item in this order: too few values, a value of the other kind, no room on the
  * stack), 8 (gives the output's length: terminfo_value).
  *
- * Uses at most 1,448 bytes of stack. */
+ * Uses at most 1,432 bytes of stack. */
 uint64_t terminfo_expand_texts(const uint8_t *string, size_t string_length, const uint8_t kinds[9],
                                const int32_t numbers[9], const size_t starts[9],
                                const size_t lengths[9], const uint8_t *texts, size_t texts_length,
