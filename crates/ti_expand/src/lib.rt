@@ -1,9 +1,9 @@
 // `ti expand [-v] [-e EDITION] FILE CAPABILITY [ARGUMENT]..`: expands a capability of a compiled file with up to nine
 // numbers and texts, through the library only. The output goes to standard output as it is; with -v, shown, and then
 // the steps and the bytes, each with its bound.
-// Proved: it is safe and ends; a word's argument is that of argument_words/specs, what is expanded is the file's string,
-// a refusal's number is that of expansion/specs; what stands for a byte is what shown/specs says. Assumed: what libc and
-// os say of C.
+// Proved: it is safe and ends; a word's argument is that of argument_words/specs, what is expanded is the file's
+// string, a refusal's number is that of expansion/specs; what stands for a byte is what shown/specs says. Assumed:
+// what libc and os say of C.
 ghost use mathlib.Core.Path.{_≡_};
 ghost use Rattle.entry.specs.Asking.{opening};
 ghost use Rattle.entry.specs.Says.{saysOpened};
