@@ -75,13 +75,16 @@ def turned(text, names, fields, dashes):
         word = match[0]
         if word not in names:
             return word
-        if "-" in word:
+        source = "-" not in word and word == word.lower()  # may be a name of src/ too
+        if source and re.match(r" = |;", text[match.end() :]) and re.search(r"(?:[{;] |\n {4,})$", text[: match.start()]):
+            return word  # a field, given its value
+        if "-" in word or source:
             if not dashes(text, match.start()):
                 return word
             before = text[match.start() - 1 : match.start()]
             if before == ".":
                 module = re.search(r"([\w']+)\.$", text[: match.start()])
-                if not fields.get(word) and not (module and module[1][0].isupper()):
+                if source or not fields.get(word) and not (module and module[1][0].isupper()):
                     return word
         return names[word]
 

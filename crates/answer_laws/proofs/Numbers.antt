@@ -521,7 +521,7 @@ array_tells o p e = λ i. record {
     booleans_at = at 3 i;
     numbers_at = at 4 i;
     strings_at = at 5 i;
-    table_at_lem = at 6 i;
+    table_at = at 6 i;
   };
   beyond = record { booleans = at 7 i; numbers = at 8 i; strings = at 9 i };
 }

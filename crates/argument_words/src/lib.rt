@@ -7,7 +7,7 @@ ghost use Rattle.argument_words.specs.Argument.{unsigned, number_of, argument_of
 use number_words::Parsed;
 
 // What a word is as an argument.
-#[derive(Drop)]
+#[derive(Clone, Copy)]
 pub enum ArgumentWord {
     Number(i32),
     // where the text starts in the word: behind its `=`, or at its first byte

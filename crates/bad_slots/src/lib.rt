@@ -9,7 +9,7 @@ ghost use Rattle.bad_slots.specs.Slots.{boolean_or_pad, bad_slot_of, bad_slot_at
 use edition::{Kind, Place};
 use entry::{FileRefusal, HEADER_SIZE, NUMBER_WIDTH, OFFSET_WIDTH, Sizes};
 
-#[derive(Drop)]
+#[derive(Clone, Copy)]
 pub enum BadSlot {
     // 1 to 4 are of no slot
     None,

@@ -86,7 +86,7 @@ capability_number a = kinded capability_code a
 abbrev pub opening_array : Opening → List ℕ
 opening_array o =
     o.tables.booleans ∷ o.tables.numbers ∷ o.tables.strings
-    ∷ o.tables.booleans_at ∷ o.tables.numbers_at ∷ o.tables.strings_at ∷ o.tables.table_at_lem
+    ∷ o.tables.booleans_at ∷ o.tables.numbers_at ∷ o.tables.strings_at ∷ o.tables.table_at
     ∷ o.beyond.booleans ∷ o.beyond.numbers ∷ o.beyond.strings ∷ []
 
 -- an expansion's steps above its output's length, in 24 bits each

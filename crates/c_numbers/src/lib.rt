@@ -57,7 +57,7 @@ pub fn opening_array(t: Tables, b: Beyond) -> [u64; 10]
         t.booleans_at as u64,
         t.numbers_at as u64,
         t.strings_at as u64,
-        t.table_at_lem as u64,
+        t.table_at as u64,
         b.booleans as u64,
         b.numbers as u64,
         b.strings as u64,

@@ -10,7 +10,7 @@ use edition::Edition;
 use text::TextRefusal;
 
 // What the fields of a description come to.
-#[derive(Drop)]
+#[derive(Clone, Copy)]
 pub enum Checked {
     // the text ends behind them; how many uses are kept now
     End(usize),

@@ -19,7 +19,7 @@ use text_file::UNSET;
 use walk_fields::Walked;
 
 // The answer where a text may have one description without uses.
-#[derive(Drop)]
+#[derive(Clone, Copy)]
 pub enum Tried {
     Answered(Compiled),
     // there are several descriptions, or a use, or the first isn't the wanted one

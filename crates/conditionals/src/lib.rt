@@ -16,7 +16,7 @@ use expansion::{Class, Form};
 const NEST_FULL: u64 = 1073741824;
 
 // What an item does to a number kept: go on with another, or stop.
-#[derive(Drop)]
+#[derive(Clone, Copy)]
 pub enum Turn {
     Go(u64),
     Stop,
@@ -24,7 +24,7 @@ pub enum Turn {
 
 // What is quickly told of a place: the class of its item and the place behind it; that `%?`, an argument and `%t`
 // stand there, with the place behind them; or nothing.
-#[derive(Drop)]
+#[derive(Clone, Copy)]
 enum Quick {
     Item { class: Class, next: usize },
     Test(usize),
@@ -32,7 +32,7 @@ enum Quick {
 }
 
 // How far a scan has come: a place, and the number kept there.
-#[derive(Drop)]
+#[derive(Clone, Copy)]
 struct Scanned {
     at: usize,
     kept: u64,

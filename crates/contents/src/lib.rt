@@ -13,7 +13,7 @@ use text_bytes::byte_at;
 
 // What stands at a place of a string, where it is usual and has a short way here: a byte that stands for itself, the
 // comma, an escape of two bytes, a backslash and three digits. Anything may be called Other.
-#[derive(Drop)]
+#[derive(Clone, Copy)]
 enum Usual {
     Itself,
     End,

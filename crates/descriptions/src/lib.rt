@@ -19,7 +19,7 @@ use entry::GIVEN_NAMES_MOST;
 use text::{DESCRIPTIONS_MOST, Header, Line, TextRefusal};
 
 // What reading a text's descriptions answers.
-#[derive(Drop)]
+#[derive(Clone, Copy)]
 pub enum TextRead {
     // how many there are
     Read(usize),
@@ -28,7 +28,7 @@ pub enum TextRead {
 }
 
 // What the names' totals come to.
-#[derive(Drop)]
+#[derive(Clone, Copy)]
 pub enum Total {
     Fits,
     // the place of the first header whose names are above 127 bytes
@@ -36,7 +36,7 @@ pub enum Total {
 }
 
 // What a description comes to.
-#[derive(Drop)]
+#[derive(Clone, Copy)]
 enum DescriptionRead {
     // the text ends behind it: its header's comma, and how many uses are kept now
     Last(usize, usize),

@@ -13,7 +13,7 @@ use edition::Edition;
 use text::{FieldJudged, Line, Said, TextRefusal};
 
 // What the fields of a description come to.
-#[derive(Drop)]
+#[derive(Clone, Copy)]
 pub enum Passed {
     // the text ends behind them; how many uses are kept now
     End(usize),

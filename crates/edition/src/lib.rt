@@ -10,7 +10,7 @@ pub const NUMBERS_MOST: usize = 64;
 pub const STRINGS_MOST: usize = 512;
 
 // An edition, document 01's term: how many places of each list it knows, counted from the list's first.
-#[derive(Drop)]
+#[derive(Clone, Copy)]
 pub struct Edition {
     pub booleans: usize,
     pub numbers: usize,
@@ -18,7 +18,7 @@ pub struct Edition {
 }
 
 // A place, document 01's term: which capability of a list, counted from 0. Never an offset.
-#[derive(Drop)]
+#[derive(Clone, Copy)]
 pub struct Place(pub usize);
 
 // The edition counts no more than document 01 allows in any list.
@@ -35,7 +35,7 @@ pub fn edition_ok(e: Edition) -> bool
 }
 
 // The three kinds of capability, a list for each.
-#[derive(Drop)]
+#[derive(Clone, Copy)]
 pub enum Kind {
     Boolean,
     Number,

@@ -7,7 +7,7 @@ ghost use Rattle.edition_words.specs.Words.{edition_of, numbered, counted, count
 use edition::Edition;
 
 // The edition that a word names.
-#[derive(Drop)]
+#[derive(Clone, Copy)]
 pub enum EditionWord {
     Given(Edition),
     // neither `1` nor `2` nor three counts

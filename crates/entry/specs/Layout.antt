@@ -54,7 +54,7 @@ tables_of s =
       booleans_at = booleans_at s;
       numbers_at = numbers_at s;
       strings_at = strings_at s;
-      table_at_lem = table_at s;
+      table_at = table_at s;
     }
 
 -- "per list, how many slots lie beyond the reader's edition"; a difference below 0 is 0

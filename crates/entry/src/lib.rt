@@ -52,11 +52,11 @@ pub const PRESENT: u8 = 1;
 pub const CANCELLED: u8 = 2;
 
 // An offset into the string table. Never a place of a list.
-#[derive(Drop)]
+#[derive(Clone, Copy)]
 pub struct Offset(pub usize);
 
 // The sizes in a file's header, after the magic: names with their NUL, the three lists' slots, the string table.
-#[derive(Drop)]
+#[derive(Clone, Copy)]
 pub struct Sizes {
     pub names: usize,
     pub booleans: usize,
@@ -67,7 +67,7 @@ pub struct Sizes {
 
 // Where an accepted file's tables start and how many slots each list has. The names start at byte 12, and the string
 // table ends where the file ends.
-#[derive(Drop)]
+#[derive(Clone, Copy)]
 pub struct Tables {
     pub booleans: usize,
     pub numbers: usize,
@@ -75,11 +75,11 @@ pub struct Tables {
     pub booleans_at: usize,
     pub numbers_at: usize,
     pub strings_at: usize,
-    pub table_at_lem: usize,
+    pub table_at: usize,
 }
 
 // How many slots of a file lie beyond an edition, in each list.
-#[derive(Drop)]
+#[derive(Clone, Copy)]
 pub struct Beyond {
     pub booleans: usize,
     pub numbers: usize,
@@ -87,7 +87,7 @@ pub struct Beyond {
 }
 
 // A part of a file: length bytes from start on.
-#[derive(Drop)]
+#[derive(Clone, Copy)]
 pub struct Part {
     pub start: usize,
     pub length: usize,
@@ -95,7 +95,7 @@ pub struct Part {
 
 // Why a file is refused: document 01's numbers 1 to 7; 4 to 7 with the position in the file of the first offending
 // byte or slot.
-#[derive(Drop)]
+#[derive(Clone, Copy)]
 pub enum FileRefusal {
     // 1: wrong length
     Length,
@@ -114,21 +114,21 @@ pub enum FileRefusal {
 }
 
 // What judging a file answers, whatever the edition.
-#[derive(Drop)]
+#[derive(Clone, Copy)]
 pub enum Judged {
     Accepted(Sizes),
     Refused(FileRefusal),
 }
 
 // What opening a file in an edition answers.
-#[derive(Drop)]
+#[derive(Clone, Copy)]
 pub enum Opened {
     Entry(Tables, Beyond),
     Refused(FileRefusal),
 }
 
 // A file's names.
-#[derive(Drop)]
+#[derive(Clone, Copy)]
 pub enum Names {
     // without the NUL
     At(Part),
@@ -137,7 +137,7 @@ pub enum Names {
 }
 
 // A boolean's state.
-#[derive(Drop)]
+#[derive(Clone, Copy)]
 pub enum BooleanState {
     Absent,
     Cancelled,
@@ -147,7 +147,7 @@ pub enum BooleanState {
 }
 
 // A number's state.
-#[derive(Drop)]
+#[derive(Clone, Copy)]
 pub enum NumberState {
     Absent,
     Cancelled,
@@ -157,7 +157,7 @@ pub enum NumberState {
 }
 
 // A string's state. Its content is that part of the file.
-#[derive(Drop)]
+#[derive(Clone, Copy)]
 pub enum StringState {
     Absent,
     Cancelled,
@@ -167,7 +167,7 @@ pub enum StringState {
 }
 
 // What writing answers.
-#[derive(Drop)]
+#[derive(Clone, Copy)]
 pub enum Written {
     // the file's length
     File(usize),
@@ -186,7 +186,7 @@ pub enum Written {
 }
 
 // What merging answers.
-#[derive(Drop)]
+#[derive(Clone, Copy)]
 pub enum Merged {
     // the file's length
     File(usize),

@@ -296,7 +296,7 @@ same_places e d x y f g v w r same t =
         let u : gives (tables_of (sizes_for x)) ≡ gives (tables_of (sizes_for y))
         = sym (ap starts_of (opening_is e x f v r k)) ∙ t ∙ ap starts_of (opening_is d y g w r k) in
         let z : tables_of (sizes_for x) ≡ tables_of (sizes_for y) = cc in
-        ap (λ (s : Tables). s.table_at_lem) z
+        ap (λ (s : Tables). s.table_at) z
 
     by_edition : (p : Place) → is_given (opening r f) ≡ is_given (opening r g) → (k : Bool) → ok_edition r ≡ k
         → asking_string r f p ≡ asking_string r g p

@@ -60,8 +60,8 @@ tables_are a b h =
     let u = eqb_and a.booleans_at b.booleans_at _ r.1 in
     let v = eqb_and a.numbers_at b.numbers_at _ u.1 in
     let w = eqb_and a.strings_at b.strings_at _ v.1 in
-    let x = eqb-true a.table_at_lem b.table_at_lem w.1 in
-    λ i. record { booleans = p.0 i; numbers = q.0 i; strings = r.0 i; booleans_at = u.0 i; numbers_at = v.0 i; strings_at = w.0 i; table_at_lem = x i }
+    let x = eqb-true a.table_at b.table_at w.1 in
+    λ i. record { booleans = p.0 i; numbers = q.0 i; strings = r.0 i; booleans_at = u.0 i; numbers_at = v.0 i; strings_at = w.0 i; table_at = x i }
 
 beyond_is : (a b : Beyond) → same_beyond a b ≡ true → a ≡ b
 unfolding same_beyond

@@ -33,7 +33,7 @@ numbers_of e (refused n v) =
             booleans_at = 0;
             numbers_at = 0;
             strings_at = 0;
-            table_at_lem = 0;
+            table_at = 0;
           };
       beyond = record { booleans = 0; numbers = 0; strings = 0 };
       refusal = n;
@@ -54,7 +54,7 @@ unfoldable pub same_tables : Tables → Tables → Bool
 same_tables a b =
     eqb a.booleans b.booleans && (eqb a.numbers b.numbers && (eqb a.strings b.strings
     && (eqb a.booleans_at b.booleans_at && (eqb a.numbers_at b.numbers_at
-    && (eqb a.strings_at b.strings_at && eqb a.table_at_lem b.table_at_lem)))))
+    && (eqb a.strings_at b.strings_at && eqb a.table_at b.table_at)))))
 
 unfoldable pub same_beyond : Beyond → Beyond → Bool
 same_beyond a b = eqb a.booleans b.booleans && (eqb a.numbers b.numbers && eqb a.strings b.strings)

@@ -16,7 +16,7 @@ use entry::{
 
 // What opening gave: the edition, the tables, the slots beyond the edition. On a refusal all are 0 but the refusal's
 // number and, for 4 to 7, its position, which are 0 otherwise.
-#[derive(Drop)]
+#[derive(Clone, Copy)]
 pub struct EntryNumbers {
     edition: Edition,
     tables: Tables,
@@ -26,7 +26,7 @@ pub struct EntryNumbers {
 }
 
 // What opening said of an entry's file.
-#[derive(Drop)]
+#[derive(Clone, Copy)]
 pub enum EntryRefusal {
     Accepted,
     // 1 to 7, 4 to 7 with the position
@@ -36,7 +36,7 @@ pub enum EntryRefusal {
 }
 
 // How many slots lie beyond the edition.
-#[derive(Drop)]
+#[derive(Clone, Copy)]
 pub enum BeyondEdition {
     Slots(Beyond),
     // 17: opening would not give the entry
@@ -56,7 +56,7 @@ const NO_TABLES: Tables = Tables {
     booleans_at: 0,
     numbers_at: 0,
     strings_at: 0,
-    table_at_lem: 0,
+    table_at: 0,
 };
 
 const NO_BEYOND: Beyond = Beyond {
@@ -120,7 +120,7 @@ fn same_tables(a: Tables, b: Tables) -> bool
             & ((a.strings == b.strings)
                 & ((a.booleans_at == b.booleans_at)
                     & ((a.numbers_at == b.numbers_at)
-                        & ((a.strings_at == b.strings_at) & (a.table_at_lem == b.table_at_lem))))))
+                        & ((a.strings_at == b.strings_at) & (a.table_at == b.table_at))))))
 }
 
 fn same_beyond(a: Beyond, b: Beyond) -> bool

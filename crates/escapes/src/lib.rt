@@ -6,7 +6,7 @@ ghost use Rattle.text.specs.Strings.{letter_of, is_control, octal_of, escape_at,
 ghost use Rattle.text.specs.Strings.{string_item_at};
 
 use text::{ByteClass, StringItem};
-use text_bytes::{byte_at, digit, is_in, run_end_lem};
+use text_bytes::{byte_at, digit, is_in, run_end};
 
 // What a letter behind a backslash stands for, or 0.
 fn letter(b: u8) -> u8
@@ -96,7 +96,7 @@ fn line_end_at(text: &[u8], at: usize) -> StringItem
     ensures { result ≡ line_end_at text.now at }
 {
     if is_in(ByteClass::Blank, byte_at(text, at)) {
-        return StringItem::Removed(run_end_lem(text, ByteClass::Blank, at + 1));
+        return StringItem::Removed(run_end(text, ByteClass::Blank, at + 1));
     }
     StringItem::Malformed
 }

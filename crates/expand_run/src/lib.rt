@@ -19,14 +19,14 @@ use machine::Step;
 const STACK_MOST: usize = 20;
 
 // What a place of the stack holds.
-#[derive(Drop)]
+#[derive(Clone, Copy)]
 struct Element {
     operand: Operand,
 }
 
 // How a run ended: with the output's length and the steps, or at an item's place with the stack empty or full, or
 // with a value of the other kind on it.
-#[derive(Drop)]
+#[derive(Clone, Copy)]
 pub enum Ran {
     Done { length: usize, steps: usize },
     Empty(usize),

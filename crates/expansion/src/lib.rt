@@ -1,7 +1,7 @@
 // The types of parameterized strings and their expansion (document 01: Expansion). Their meaning is in specs/.
 
 // The base that a number is printed in.
-#[derive(Drop)]
+#[derive(Clone, Copy)]
 pub enum Base {
     Decimal,
     Octal,
@@ -10,7 +10,7 @@ pub enum Base {
 }
 
 // An item that pops two values and pushes one.
-#[derive(Drop)]
+#[derive(Clone, Copy)]
 pub enum Operator {
     Add,
     Subtract,
@@ -28,7 +28,7 @@ pub enum Operator {
 }
 
 // An item of a parameterized string.
-#[derive(Drop)]
+#[derive(Clone, Copy)]
 pub enum Item {
     // a byte that stands for itself; %%
     Byte(u8),
@@ -64,14 +64,14 @@ pub enum Item {
 }
 
 // An item and the place behind it.
-#[derive(Drop)]
+#[derive(Clone, Copy)]
 pub struct Lexed {
     pub item: Item,
     pub next: usize,
 }
 
 // What an item is to the conditionals around it.
-#[derive(Drop)]
+#[derive(Clone, Copy)]
 pub enum Class {
     Plain,
     If,
@@ -82,40 +82,40 @@ pub enum Class {
 }
 
 // An item's class and the place behind it.
-#[derive(Drop)]
+#[derive(Clone, Copy)]
 pub struct Classed {
     pub class: Class,
     pub next: usize,
 }
 
 // Whether a string is well formed; if not, the place of its first wrong item.
-#[derive(Drop)]
+#[derive(Clone, Copy)]
 pub enum Form {
     Right,
     Wrong(usize),
 }
 
 // A number, or a text: where it starts in what was lent, and its length (document 02, 2026-07).
-#[derive(Drop)]
+#[derive(Clone, Copy)]
 pub enum Operand {
     Number(i32),
     Text { start: usize, length: usize },
 }
 
 // One of the nine arguments.
-#[derive(Drop)]
+#[derive(Clone, Copy)]
 pub struct Argument {
     pub operand: Operand,
 }
 
 // The lasting variables A to Z.
-#[derive(Drop)]
+#[derive(Clone, Copy)]
 pub struct Lasting {
     pub values: [i32; 26],
 }
 
 // What expanding answers.
-#[derive(Drop)]
+#[derive(Clone, Copy)]
 pub enum Expansion {
     // the output's length, and the steps
     Done { length: usize, steps: usize },
@@ -136,7 +136,7 @@ pub enum Expansion {
 }
 
 // The answer, and the lasting variables as they are afterwards.
-#[derive(Drop)]
+#[derive(Clone, Copy)]
 pub struct Expanded {
     pub answer: Expansion,
     pub lasting: Lasting,

@@ -62,9 +62,9 @@ module _ (s : Sizes) where
 
 -- ---- the tables' places
 
-pub placed : (s : Sizes) (t : Tables) → t ≡ tables_of s → t.table_at_lem ≡ table_at s
+pub placed : (s : Sizes) (t : Tables) → t ≡ tables_of s → t.table_at ≡ table_at s
 unfolding tables_of
-placed s t e = ap (λ (u : Tables). u.table_at_lem) e
+placed s t e = ap (λ (u : Tables). u.table_at) e
 
 module _ {f : List ℕ} {s : Sizes} {t : Tables} (k : Framed f s t) where
   pub at_booleans : t.booleans_at ≡ booleans_at s
@@ -79,7 +79,7 @@ module _ {f : List ℕ} {s : Sizes} {t : Tables} (k : Framed f s t) where
   unfolding tables_of
   at_strings = ap (λ (u : Tables). u.strings_at) k.places
 
-  pub at_table : t.table_at_lem ≡ table_at s
+  pub at_table : t.table_at ≡ table_at s
   at_table = placed s t k.places
 
   pub in_booleans_lem : t.booleans ≡ s.booleans
@@ -173,7 +173,7 @@ slot_ext p q h c = rw (h c)
 
 module _ {f : List ℕ} {s : Sizes} {t : Tables} (k : Framed f s t) where
   -- the string slots, judged by the end of the offsets
-  module _ (n end : ℕ) (o : OffsetsEnd f t.table_at_lem s.table end)
+  module _ (n end : ℕ) (o : OffsetsEnd f t.table_at s.table end)
       (e : n ≡ scan (λ i. ok_slot offset_width (λ d. ltb d end) (word offset_width f (t.strings_at + offset_width * i))) 0 t.strings) where
     strings_scan : n ≡ scan (ok_string_at f s) 0 s.strings
     unfolding ok_offset

@@ -120,7 +120,7 @@ pub fn strings_ok(file: &[u8], s: Sizes, t: Tables) -> bool
     requires { Framed file.now s t }
     ensures { result ≡ ok_strings file.now s }
 {
-    let end = offsets_end(file, t.table_at_lem, s.table);
+    let end = offsets_end(file, t.table_at, s.table);
     first_bad_slot(file, t.strings_at, t.strings, end) == t.strings
 }
 
@@ -152,6 +152,6 @@ pub fn bad_string(file: &[u8], s: Sizes, t: Tables) -> usize
     requires { Framed file.now s t }
     ensures { result ≡ bad_string file.now s }
 {
-    let end = offsets_end(file, t.table_at_lem, s.table);
+    let end = offsets_end(file, t.table_at, s.table);
     t.strings_at + OFFSET_WIDTH * first_bad_slot(file, t.strings_at, t.strings, end)
 }

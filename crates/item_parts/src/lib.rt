@@ -37,7 +37,7 @@ pub fn is_letter(c: u8) -> bool
 }
 
 // A constant in braces and the place behind it, or none.
-#[derive(Drop)]
+#[derive(Clone, Copy)]
 pub enum Braced {
     Constant { value: i32, next: usize },
     Wrong,

@@ -13,7 +13,7 @@ ghost use Rattle.items.specs.Reading.{ReadAs};
 use expansion::{Base, Item, Operator};
 
 // An item as the run reads it: those that it takes by itself, and any other with the place behind it.
-#[derive(Drop)]
+#[derive(Clone, Copy)]
 pub enum RunItem {
     // a byte that stands for itself
     Byte(u8),

@@ -9,7 +9,7 @@ ghost use Rattle.level_end.specs.Turns.{turn_of, inner_most};
 use expansion::Class;
 
 // What a passed item comes to: go on with so many conditionals open inside the level, or stop behind the item.
-#[derive(Drop)]
+#[derive(Clone, Copy)]
 enum Turn {
     Go(u64),
     Stop,

@@ -19,7 +19,7 @@ use entry::{
 };
 
 // What listing answers: done; opening's refusal; or an array is too short for so many places.
-#[derive(Drop)]
+#[derive(Clone, Copy)]
 pub enum Listed {
     Done,
     Refused(FileRefusal),
@@ -27,7 +27,7 @@ pub enum Listed {
 }
 
 // Whether the arrays have room for the edition's states, or one of them is too short for so many places.
-#[derive(Drop)]
+#[derive(Clone, Copy)]
 enum Room {
     Enough,
     Short(usize),

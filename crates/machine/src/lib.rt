@@ -13,7 +13,7 @@ use expansion::Item;
 use variables::{load, store};
 
 // What an item comes to once its values are popped: a value to push, or the output's length.
-#[derive(Drop)]
+#[derive(Clone, Copy)]
 pub enum Step {
     Push(i32),
     Go(usize),

@@ -13,14 +13,14 @@ use entry::{
 };
 
 // A number as the writer takes it.
-#[derive(Drop)]
+#[derive(Clone, Copy)]
 pub struct HandedNumber {
     pub kind: u8,
     pub value: u32,
 }
 
 // A string as the writer takes it: a part of the first file and the second behind it.
-#[derive(Drop)]
+#[derive(Clone, Copy)]
 pub struct HandedString {
     pub kind: u8,
     pub start: usize,
@@ -28,7 +28,7 @@ pub struct HandedString {
 }
 
 // The size of the string table; too large where it alone is longer than a file may be.
-#[derive(Drop)]
+#[derive(Clone, Copy)]
 pub enum TableSize {
     Bytes(usize),
     TooLarge,

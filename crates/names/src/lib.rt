@@ -249,7 +249,7 @@ const NAMES: [u64; ALL] = [
 ];
 
 // A capability's name.
-#[derive(Drop)]
+#[derive(Clone, Copy)]
 pub enum Name {
     // the number whose bytes, low byte first, are the name's
     Packed(u64),
@@ -258,7 +258,7 @@ pub enum Name {
 }
 
 // What a name is looked up as.
-#[derive(Drop)]
+#[derive(Clone, Copy)]
 pub enum Found {
     Boolean(Place),
     Number(Place),

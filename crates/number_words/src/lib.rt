@@ -4,7 +4,7 @@ ghost use Rattle.std.specs.Prelude.{◌≡◌, true, false};
 ghost use Rattle.number_words.specs.Number.{is_numeral, signed_of, value_of, with_digit, magnitude_of};
 
 // A word's value.
-#[derive(Drop)]
+#[derive(Clone, Copy)]
 pub enum Parsed {
     Value(i32),
     // no decimal number, or one that 32 bits with a sign don't hold

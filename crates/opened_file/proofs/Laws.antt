@@ -141,28 +141,28 @@ module _ {e : Edition} {f : List ℕ} {t : Tables} (o : OpenedAs e f t) where
   unfolding offset_in
   opened_offset p x q = ap (map_state offset) (q ∙ ap₂ (λ (b n : ℕ). slot_in short_width f b n p) (at_strings framed) (in_strings_lem framed))
 
-  pub opened_content : (at : Offset) (end : ℕ) → end ≡ nul_from f (t.table_at_lem + at.0) (length f)
-      → record { start = t.table_at_lem + at.0; length = end - (t.table_at_lem + at.0) } ≡ content_at f (sizes_of f) at
+  pub opened_content : (at : Offset) (end : ℕ) → end ≡ nul_from f (t.table_at + at.0) (length f)
+      → record { start = t.table_at + at.0; length = end - (t.table_at + at.0) } ≡ content_at f (sizes_of f) at
   unfolding content_at
   opened_content at end q =
-      let a : t.table_at_lem + at.0 ≡ table_at (sizes_of f) + at.0 = ap (λ (n : ℕ). n + at.0) (at_table framed) in
+      let a : t.table_at + at.0 ≡ table_at (sizes_of f) + at.0 = ap (λ (n : ℕ). n + at.0) (at_table framed) in
       let b : end ≡ nul_from f (table_at (sizes_of f) + at.0) (size_of (sizes_of f)) = q ∙ ap₂ (nul_from f) a framed.size in
       λ i. record { start = a i; length = b i - a i }
 
   -- a string that a slot presents ends in the file
   pub string_ends : (p : Place) (o : Offset) → present o ≡ offset_in f (sizes_of f) p
-      → nul_from f (t.table_at_lem + o.0) (length f) < length f
+      → nul_from f (t.table_at + o.0) (length f) < length f
   unfolding offset_in ok_offset
   string_ends p o q = by_slot (slot_in offset_width f (strings_at (sizes_of f)) (sizes_of f).strings p) (offset_fits f opened_file p) q
     where
       by_slot : (x : State ℕ) → Passes (λ c. ok_offset f (sizes_of f) (offset c)) x → present o ≡ map_state offset x
-          → nul_from f (t.table_at_lem + o.0) (length f) < length f
+          → nul_from f (t.table_at + o.0) (length f) < length f
       by_slot absent k r = absurd (let z : ◌≡◌ {A = ℕ} 0 1 = cc in (let y : ⊥ = omega arith in y))
       by_slot cancelled k r = absurd (let z : ◌≡◌ {A = ℕ} 0 1 = cc in (let y : ⊥ = omega arith in y))
       by_slot (present c) k r =
           let m : o ≡ offset c = cc in
-          let a : t.table_at_lem + o.0 ≡ table_at (sizes_of f) + c = ap₂ (λ (x y : ℕ). x + y) (at_table framed) (ap (λ (u : Offset). u.0) m) in
-          let b : nul_from f (t.table_at_lem + o.0) (length f) ≡ nul_from f (table_at (sizes_of f) + c) (size_of (sizes_of f)) = ap₂ (nul_from f) a framed.size in
+          let a : t.table_at + o.0 ≡ table_at (sizes_of f) + c = ap₂ (λ (x y : ℕ). x + y) (at_table framed) (ap (λ (u : Offset). u.0) m) in
+          let b : nul_from f (t.table_at + o.0) (length f) ≡ nul_from f (table_at (sizes_of f) + c) (size_of (sizes_of f)) = ap₂ (nul_from f) a framed.size in
           let l : nul_from f (table_at (sizes_of f) + c) (size_of (sizes_of f)) < size_of (sizes_of f) = ltb-true _ _ (and_right (ltb c (sizes_of f).table) _ k) in
           let n = framed.size in
           omega arith

@@ -19,7 +19,7 @@ use entry::{
 };
 
 // What a slot says.
-#[derive(Drop)]
+#[derive(Clone, Copy)]
 pub enum Slot {
     Absent,
     Cancelled,
@@ -27,7 +27,7 @@ pub enum Slot {
 }
 
 // What a string's slot says.
-#[derive(Drop)]
+#[derive(Clone, Copy)]
 pub enum OffsetSlot {
     Absent,
     Cancelled,
@@ -118,10 +118,10 @@ fn offset_at(file: &[u8], edition: Edition, t: Tables, place: Place) -> OffsetSl
 // The content at an offset of the string table, up to the first NUL, which is there.
 fn content_at(file: &[u8], edition: Edition, t: Tables, offset: Offset) -> Part
     requires { OpenedAs edition file.now t
-        × (nul_from file.now (t.table_at_lem + offset.0) (length file.now) < length file.now) }
+        × (nul_from file.now (t.table_at + offset.0) (length file.now) < length file.now) }
     ensures { result ≡ content_at file.now (sizes_of file.now) offset }
 {
-    let start = t.table_at_lem + offset.0;
+    let start = t.table_at + offset.0;
     let end = word::nul_from(file, start);
     Part {
         start,

@@ -4,7 +4,7 @@ ghost use Rattle.std.specs.Prelude.{◌≡◌};
 ghost use Rattle.option_words.specs.Words.{own_kind, kind_of};
 
 // The option that a command has of its own.
-#[derive(Drop)]
+#[derive(Clone, Copy)]
 pub enum OwnOption {
     Nothing,
     // a letter behind `-`
@@ -14,7 +14,7 @@ pub enum OwnOption {
 }
 
 // What a word is.
-#[derive(Drop)]
+#[derive(Clone, Copy)]
 pub enum WordKind {
     Operand,
     // `--`, behind which no option stands

@@ -5,7 +5,7 @@ ghost use Rattle.positions.specs.Taken.{text_room};
 ghost use Rattle.positions.specs.Position.{line_of, column_of};
 
 // Both are counted from 1.
-#[derive(Drop)]
+#[derive(Clone, Copy)]
 pub struct Position {
     pub line: usize,
     pub column: usize,

@@ -11,7 +11,7 @@ ghost use Rattle.print.specs.Numeral.{minus_sign, front, before, is_plain, bytes
 use expansion::Base;
 
 // What a value is printed from: its sign and its magnitude, with the base's radix and its first letter.
-#[derive(Drop)]
+#[derive(Clone, Copy)]
 pub struct Numeral {
     pub minus: bool,
     pub magnitude: u32,

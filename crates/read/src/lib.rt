@@ -63,7 +63,7 @@ pub fn tables_for(s: Sizes) -> Tables
     let booleans_at = HEADER_SIZE + s.names;
     let numbers_at = booleans_at + s.booleans + (s.names + s.booleans) % 2;
     let strings_at = numbers_at + NUMBER_WIDTH * s.numbers;
-    let table_at_lem = strings_at + OFFSET_WIDTH * s.strings;
+    let table_at = strings_at + OFFSET_WIDTH * s.strings;
     Tables {
         booleans: s.booleans,
         numbers: s.numbers,
@@ -71,7 +71,7 @@ pub fn tables_for(s: Sizes) -> Tables
         booleans_at,
         numbers_at,
         strings_at,
-        table_at_lem,
+        table_at,
     }
 }
 
@@ -113,7 +113,7 @@ pub fn judge(file: &[u8]) -> Judged
         return Judged::Refused(FileRefusal::Counts);
     }
     let t = tables_for(s);
-    if file.len() != t.table_at_lem + s.table {
+    if file.len() != t.table_at + s.table {
         return Judged::Refused(FileRefusal::Length);
     }
     judge_tables(file, s, t)

@@ -21,21 +21,21 @@ use entry_numbers::{BeyondEdition, EntryNumbers, EntryRefusal};
 use expansion::{Argument, Expansion, Lasting};
 
 // An entry: the caller's bytes and what opening gave for them.
-#[derive(Drop)]
+#[derive(Clone, Copy)]
 pub struct Entry<'a> {
     file: &'a [u8],
     numbers: EntryNumbers,
 }
 
 // The names, and their bytes in the caller's.
-#[derive(Drop)]
+#[derive(Clone, Copy)]
 pub struct NamesPart<'a> {
     pub names: Names,
     pub bytes: &'a [u8],
 }
 
 // A string's state, and its content's bytes in the caller's.
-#[derive(Drop)]
+#[derive(Clone, Copy)]
 pub struct StringPart<'a> {
     pub state: StringState,
     pub bytes: &'a [u8],
@@ -166,7 +166,7 @@ pub fn zero_lasting() -> Lasting
 }
 
 // What expanding a file's string answers.
-#[derive(Drop)]
+#[derive(Clone, Copy)]
 pub enum ExpandedString {
     Absent,
     Cancelled,

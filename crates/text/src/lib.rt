@@ -16,7 +16,7 @@ pub const DIGITS_MOST: usize = 99;
 pub const NUMBER_MOST: usize = entry::NUMBER_MOST as usize;
 
 // Classes of bytes.
-#[derive(Drop)]
+#[derive(Clone, Copy)]
 pub enum ByteClass {
     // space and tab
     Blank,
@@ -35,7 +35,7 @@ pub enum ByteClass {
 }
 
 // The bases of numbers.
-#[derive(Drop)]
+#[derive(Clone, Copy)]
 pub enum NumberBase {
     Octal,
     Decimal,
@@ -43,7 +43,7 @@ pub enum NumberBase {
 }
 
 // What stands at a place of a string.
-#[derive(Drop)]
+#[derive(Clone, Copy)]
 pub enum StringItem {
     // the comma that ends it
     End,
@@ -55,7 +55,7 @@ pub enum StringItem {
 }
 
 // A string in the text.
-#[derive(Drop)]
+#[derive(Clone, Copy)]
 pub enum Content {
     // how many bytes it stands for, and the place of its comma
     Whole(usize, usize),
@@ -63,7 +63,7 @@ pub enum Content {
 }
 
 // What stands where a line or a field may begin, past blank lines and comment lines.
-#[derive(Drop)]
+#[derive(Clone, Copy)]
 pub enum Line {
     // the text's end
     End,
@@ -74,7 +74,7 @@ pub enum Line {
 }
 
 // What a field says of its capability.
-#[derive(Drop)]
+#[derive(Clone, Copy)]
 pub enum FieldForm {
     Boolean,
     Cancelled,
@@ -86,7 +86,7 @@ pub enum FieldForm {
 }
 
 // A form in the text.
-#[derive(Drop)]
+#[derive(Clone, Copy)]
 pub enum Formed {
     // the form, and the place past it
     Right(FieldForm, usize),
@@ -94,7 +94,7 @@ pub enum Formed {
 }
 
 // A field.
-#[derive(Drop)]
+#[derive(Clone, Copy)]
 pub enum Field {
     Right {
         dropped: bool,
@@ -109,7 +109,7 @@ pub enum Field {
 }
 
 // A header.
-#[derive(Drop)]
+#[derive(Clone, Copy)]
 pub enum Header {
     // the place of its comma
     Right(usize),
@@ -120,7 +120,7 @@ pub enum Header {
 }
 
 // Why a text is refused at a place: document 01's numbers 10, 11 and 13, document 02's 18 to 20.
-#[derive(Drop)]
+#[derive(Clone, Copy)]
 pub enum TextRefusal {
     // 10: malformed text
     Malformed,
@@ -138,7 +138,7 @@ pub enum TextRefusal {
 
 // What a field says, as the writer takes it: a capability's place, its kind (0 absent, 1 present, 2 cancelled) and
 // its content.
-#[derive(Drop)]
+#[derive(Clone, Copy)]
 pub enum Said {
     // the field is dropped
     Nothing,
@@ -151,7 +151,7 @@ pub enum Said {
 }
 
 // What judging a field answers.
-#[derive(Drop)]
+#[derive(Clone, Copy)]
 pub enum FieldJudged {
     // what it says, and the place past it
     Said(Said, usize),
@@ -159,7 +159,7 @@ pub enum FieldJudged {
 }
 
 // What compiling answers.
-#[derive(Drop)]
+#[derive(Clone, Copy)]
 pub enum Compiled {
     // the file's length
     File(usize),

@@ -54,7 +54,7 @@ pub fn is_in(class: ByteClass, b: u8) -> bool
 }
 
 // The first place from at on that holds no byte of the class, or the text's end.
-pub fn run_end_lem(text: &[u8], class: ByteClass, at: usize) -> usize
+pub fn run_end(text: &[u8], class: ByteClass, at: usize) -> usize
     ensures { result ≡ run_end class text.now at }
 {
     let mut i = at;

@@ -103,7 +103,7 @@ pub fn write(
     );
     put_table(
         buffer,
-        write_file::table_at_lem(s),
+        write_file::table_at(s),
         string_kinds,
         string_starts,
         string_lengths,

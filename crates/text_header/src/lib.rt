@@ -14,7 +14,7 @@ fn names_right(names: &[u8]) -> bool
     let mut several = false;
     let mut at = 0;
     loop {
-        let end = text_bytes::run_end_lem(names, ByteClass::Alias, at);
+        let end = text_bytes::run_end(names, ByteClass::Alias, at);
         if end <= at {
             return last_right(names, several, at);
         }
@@ -33,7 +33,7 @@ fn last_right(names: &[u8], several: bool, at: usize) -> bool
     if !several {
         return false;
     }
-    let end = text_bytes::run_end_lem(names, ByteClass::LastName, at);
+    let end = text_bytes::run_end(names, ByteClass::LastName, at);
     at < end && end == names.len()
 }
 
@@ -59,7 +59,7 @@ fn alias_long(names: &[u8]) -> bool
 fn line_ends(text: &[u8], at: usize) -> bool
     ensures { result ≡ line_ends text.now (run_end C.Blank text.now at) }
 {
-    let j = text_bytes::run_end_lem(text, ByteClass::Blank, at);
+    let j = text_bytes::run_end(text, ByteClass::Blank, at);
     if text.len() <= j {
         return true;
     }
@@ -71,7 +71,7 @@ pub fn header_at(text: &[u8], at: usize) -> Header
     requires { at ≤ length text.now }
     ensures { result ≡ header_at text.now at }
 {
-    let comma = text_bytes::run_end_lem(text, ByteClass::Header, at);
+    let comma = text_bytes::run_end(text, ByteClass::Header, at);
     if text.len() <= comma {
         return Header::Malformed;
     }

@@ -5,7 +5,7 @@ ghost use Rattle.text.specs.Lines.{line_at, next_at};
 ghost use Rattle.text_lines.specs.Usual.{is_usual};
 
 use text::{ByteClass, Line};
-use text_bytes::{blanks_end, byte_at, run_end_lem};
+use text_bytes::{blanks_end, byte_at, run_end};
 
 // What stands past blank lines and comment lines, from the start of a line.
 pub fn line_at(text: &[u8], at: usize) -> Line
@@ -21,7 +21,7 @@ pub fn line_at(text: &[u8], at: usize) -> Line
         if b == 10 {
             i = j + 1;
         } else if b == b'#' {
-            i = run_end_lem(text, ByteClass::Line, j) + 1;
+            i = run_end(text, ByteClass::Line, j) + 1;
         } else if j == i {
             return Line::Column(i);
         } else {

@@ -39,7 +39,7 @@ fn value_of(text: &[u8], base: usize, at: usize, end: usize) -> usize
 fn digits_at(text: &[u8], base: NumberBase, at: usize) -> Formed
     ensures { result ≡ digits_at base text.now at }
 {
-    let past = text_bytes::run_end_lem(text, ByteClass::Digit(base), at);
+    let past = text_bytes::run_end(text, ByteClass::Digit(base), at);
     if past == at {
         return Formed::Malformed;
     }

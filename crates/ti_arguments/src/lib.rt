@@ -16,14 +16,14 @@ pub const TEXTS_ROOM: usize = 36864;
 const TEXT_MOST: u16 = 1000;
 
 // The nine arguments; else a failure was said.
-#[derive(Drop)]
+#[derive(Clone, Copy)]
 pub struct Given {
     pub ok: bool,
     pub arguments: [Argument; 9],
 }
 
 // What a word gives; a failure was said.
-#[derive(Drop)]
+#[derive(Clone, Copy)]
 enum Taken {
     Argument(Argument),
     Failed,

@@ -12,7 +12,7 @@ pub mod words;
 pub const FILE_ROOM: usize = FILE_MOST + 1;
 
 // How a command ends.
-#[derive(Drop)]
+#[derive(Clone, Copy)]
 pub enum Status {
     Done,
     Refused,

@@ -4,7 +4,7 @@ ghost use Rattle.io.specs.Counts.{IsPrefixLen};
 use crate::{Status, complain, fail};
 
 // What a command is asked to do.
-#[derive(Drop)]
+#[derive(Clone, Copy)]
 pub enum Task {
     Run,
     // to say how it is called
@@ -14,7 +14,7 @@ pub enum Task {
 }
 
 // A command's words: the place of the first, what is asked, and whether standard error is a terminal.
-#[derive(Drop)]
+#[derive(Clone, Copy)]
 pub struct Words {
     pub first: u16,
     pub task: Task,
@@ -22,7 +22,7 @@ pub struct Words {
 }
 
 // A word that was put at a slice's start, and its length; else a failure was said.
-#[derive(Drop)]
+#[derive(Clone, Copy)]
 pub struct Word {
     pub ok: bool,
     pub length: usize,

@@ -61,7 +61,7 @@ const STRING_MOST: usize = 1000;
 const ROOM_FOR_BYTE: usize = 25;
 
 // How many steps and how many bytes of output an expansion has at most.
-#[derive(Drop)]
+#[derive(Clone, Copy)]
 pub struct Bounds {
     pub steps: usize,
     pub bytes: usize,

@@ -6,7 +6,7 @@ use ti_common::fail;
 
 // Bytes that were put at a slice's start: how many, and whether they are all there are or the slice is full; else a
 // failure was said.
-#[derive(Drop)]
+#[derive(Clone, Copy)]
 pub struct Got {
     pub ok: bool,
     pub length: usize,

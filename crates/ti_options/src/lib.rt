@@ -15,7 +15,7 @@ use ti_common::output::complain_quoted;
 use ti_common::words::Words;
 
 // How the options are.
-#[derive(Drop)]
+#[derive(Clone, Copy)]
 pub enum Outcome {
     Taken,
     // an option that is unknown, an edition's word that is missing or wrong, or a missing name, which was said
@@ -25,7 +25,7 @@ pub enum Outcome {
 }
 
 // The description that is wanted.
-#[derive(Drop)]
+#[derive(Clone, Copy)]
 pub enum Wanted {
     // the text's first
     First,
@@ -34,7 +34,7 @@ pub enum Wanted {
 }
 
 // What the options are: whether the flag stood among them, the edition, what is wanted, and the words behind them.
-#[derive(Drop)]
+#[derive(Clone, Copy)]
 pub struct Options {
     pub outcome: Outcome,
     pub is_set: bool,
@@ -44,7 +44,7 @@ pub struct Options {
 }
 
 // What stands at a place.
-#[derive(Drop)]
+#[derive(Clone, Copy)]
 enum Step {
     Operand,
     End,

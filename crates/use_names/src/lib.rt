@@ -22,7 +22,7 @@ use uses::NO_TARGET;
 const HASHES: usize = 4096;
 
 // The description that has a name.
-#[derive(Drop)]
+#[derive(Clone, Copy)]
 pub enum Named {
     Nobody,
     // its number in the text

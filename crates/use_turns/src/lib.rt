@@ -26,7 +26,7 @@ const NO_TARGET: usize = uses::NO_TARGET as usize;
 pub const UNFINISHED: usize = 255;
 
 // What the last open description's next use asks for.
-#[derive(Drop)]
+#[derive(Clone, Copy)]
 enum Next {
     // it has no more uses
     End,
@@ -39,7 +39,7 @@ enum Next {
 }
 
 // How far the walk comes before it enters another description.
-#[derive(Drop)]
+#[derive(Clone, Copy)]
 pub enum Advanced {
     // the description to be entered, and how many are open with it
     Entered(usize, usize),

@@ -17,7 +17,7 @@ use text::{DESCRIPTIONS_MOST, TextRefusal};
 use use_turns::{Advanced, OPEN_MOST, UNFINISHED};
 
 // What the walk comes to.
-#[derive(Drop)]
+#[derive(Clone, Copy)]
 pub enum UsesWalked {
     Done,
     // a refusal, and the first byte of the use

@@ -8,7 +8,7 @@ use escapes::{item_at, stored_byte};
 use text::{ALIAS_MOST, StringItem};
 
 // The name in a use.
-#[derive(Drop)]
+#[derive(Clone, Copy)]
 pub enum Used {
     // how many bytes it has
     Name(usize),

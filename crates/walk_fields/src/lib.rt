@@ -10,7 +10,7 @@ use edition::Edition;
 use text::TextRefusal;
 
 // What the fields of a description come to.
-#[derive(Drop)]
+#[derive(Clone, Copy)]
 pub enum Walked {
     // the text ends behind them, and none is a use
     Alone,

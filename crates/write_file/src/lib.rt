@@ -46,7 +46,7 @@ pub fn numbers_at(s: Sizes) -> usize
 }
 
 // Where the string table starts.
-pub fn table_at_lem(s: Sizes) -> usize
+pub fn table_at(s: Sizes) -> usize
     requires { size_of s < 2 ^ 64 }
     ensures { result ≡ table_at s }
 {
@@ -58,7 +58,7 @@ pub fn file_size(s: Sizes) -> usize
     requires { size_of s < 2 ^ 64 }
     ensures { result ≡ size_of s }
 {
-    table_at_lem(s) + s.table
+    table_at(s) + s.table
 }
 
 // The header, the names, the booleans and the pad byte.
@@ -165,7 +165,7 @@ pub fn write_sure(
     );
     put::put_table(
         b,
-        table_at_lem(s),
+        table_at(s),
         string_kinds,
         string_starts,
         string_lengths,

@@ -121,7 +121,7 @@ fn find_boolean_past(kinds: &[u8], n: usize) -> usize
     i
 }
 
-fn number_fits_lem(kind: u8, value: u32) -> bool
+fn number_fits(kind: u8, value: u32) -> bool
     ensures { result ≡ (is_kind kind && number_fits (state_of kind value)) }
 {
     if CANCELLED < kind {

@@ -18,7 +18,7 @@ run-end-requires c κs = search rules
 
 returns : tie.Need-returns
 unfolding line_end_at is_in
-returns c = simp (← c.before.before.before.byte_at.ensures, ← c.before.before.is-in.ensures, c.before.if1.true, c.run_end_lem.ensures)
+returns c = simp (← c.before.before.before.byte_at.ensures, ← c.before.before.is-in.ensures, c.before.if1.true, c.run_end.ensures)
 
 returns-2 : tie.Need-returns-2
 unfolding line_end_at is_in

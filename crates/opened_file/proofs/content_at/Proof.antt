@@ -11,7 +11,7 @@ use Rattle.opened_file.proofs.content_at.Tie as tie
 add_start : tie.Need-overflow-add-start
 add_start c =
     let f = c.before.before.before.args.file.now in
-    let a = c.before.before.before.args.t.table_at_lem + c.before.before.before.args.offset.0 in
+    let a = c.before.before.before.args.t.table_at + c.before.before.before.args.offset.0 in
     let g = scan_ge (not_nul_at f) a (length f - a) in
     let l = c.before.before.before.requires.1 in
     let k = c.before.before.before.well-formed in
@@ -23,7 +23,7 @@ nul-from-requires c κs = c.before.before.before.requires.1
 sub-t7 : tie.Need-overflow-sub-t7
 sub-t7 c =
     let f = c.before.before.before.before.args.file.now in
-    let a = c.before.before.before.before.args.t.table_at_lem + c.before.before.before.before.args.offset.0 in
+    let a = c.before.before.before.before.args.t.table_at + c.before.before.before.before.args.offset.0 in
     let g = scan_ge (not_nul_at f) a (length f - a) in
     let q = c.nul-from.ensures in
     omega arith

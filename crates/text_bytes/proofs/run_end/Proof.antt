@@ -5,8 +5,8 @@ use lib.ListN.{length}
 use borrow.Author.Rules.{rules}
 use Rattle.text.specs.Bytes.{run_end}
 use Rattle.text_laws.specs.Runs.{run_goes, run_stops, run_done}
-use Rattle.text_bytes.proofs.run_end_lem.Statement.{statement}
-use Rattle.text_bytes.proofs.run_end_lem.Tie as tie
+use Rattle.text_bytes.proofs.run_end.Statement.{statement}
+use Rattle.text_bytes.proofs.run_end.Tie as tie
 
 abbrev invariant-loop : tie.invariant-loop
 invariant-loop text class at i₀ i = run_end class text i ≡ run_end class text at

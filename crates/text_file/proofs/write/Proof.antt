@@ -74,7 +74,7 @@ put-table-requires c κs =
     let h = handed a.names.now a.boolean-kinds.now a.number-kinds.now a.number-values.now a.string-kinds.now a.string-starts.now a.string-lengths.now a.text.now in
     let k = c.before.before.before.before.before.before.before.before.before.before.before.before.before.before.before.before.before.before.before.before.requires.1 in
     let q : c.before.before.before.before.before.before.before.before.file-size.result ≡ size_of (sizes_handed a.edition h) = c.before.before.before.before.before.before.before.before.file-size.ensures ∙ ap size_of c.before.before.before.before.before.before.before.before.before.sizes.ensures in
-    let w : c.table_at_lem.result ≡ table_at (sizes_handed a.edition h) = c.table_at_lem.ensures ∙ ap table_at c.before.before.before.before.before.before.before.before.before.sizes.ensures in
+    let w : c.table_at.result ≡ table_at (sizes_handed a.edition h) = c.table_at.ensures ∙ ap table_at c.before.before.before.before.before.before.before.before.before.sizes.ensures in
     let v = c.before.before.before.before.before.before.if3.false in
     let l = c.before.before.before.before.put_front.auto.0 in
     record { kinds = k.given.string_kinds; starts = k.given.string_starts; lengths = k.given.string_lengths; strings = k.strings; fits = omega arith }
@@ -91,7 +91,7 @@ returns-4 c =
     let q : c.before.before.before.before.before.before.before.before.before.before.before.file-size.result ≡ size_of (sizes_handed a.edition h) = c.before.before.before.before.before.before.before.before.before.before.before.file-size.ensures ∙ ap size_of c.before.before.before.before.before.before.before.before.before.before.before.before.sizes.ensures in
     let v = c.before.before.before.before.before.before.before.before.before.if3.false in
     give_file a.edition h c.before.before.before.before.before.before.before.before.before.before.before.before.before.before.before.before.before.before.before.before.before.before.before.requires.0 c.before.before.before.before.before.before.before.before.before.before.before.before.before.before.before.before.before.before.before.before.before.before.before.requires.1 a.buffer.now (omega arith) c.before.before.before.before.before.before.before.before.before.before.before.file-size.result q c.before.before.before.before.before.before.before.before.before.before.if2.false c.before.before.before.before.before.before.before.before.before.if3.false _
-    (file_put a.edition h (text_string h) (text_described h a.edition.strings c.before.before.before.before.before.before.before.before.before.before.before.before.before.before.before.before.before.before.before.before.before.before.before.requires.1.strings) a.buffer.now _ _ c.before.before.before.before.before.before.before.before.before.before.before.before.sizes.ensures (omega arith) c.before.before.before.table_at_lem.ensures c.before.before.before.before.before.before.before.put_front.ensures c.before.before.put-table.ensures)
+    (file_put a.edition h (text_string h) (text_described h a.edition.strings c.before.before.before.before.before.before.before.before.before.before.before.before.before.before.before.before.before.before.before.before.before.before.before.requires.1.strings) a.buffer.now _ _ c.before.before.before.before.before.before.before.before.before.before.before.before.sizes.ensures (omega arith) c.before.before.before.table_at.ensures c.before.before.before.before.before.before.before.put_front.ensures c.before.before.put-table.ensures)
 
 pub write_spec : {M : Type 1} → statement M
 write_spec =

@@ -7,13 +7,13 @@ run-end-requires : tie.Need-run-end-requires
 run-end-requires c κs = search rules
 
 returns : tie.Need-returns
-returns c = rw (← c.before.run_end_lem.ensures, le-leb _ _ c.if1.true)
+returns c = rw (← c.before.run_end.ensures, le-leb _ _ c.if1.true)
 
 shared-slice-read-result : tie.Need-shared-slice-read-result
 shared-slice-read-result c = search rules
 
 returns-2 : tie.Need-returns-2
-returns-2 c = rw (← c.before.before.run_end_lem.ensures, lt-leb _ _ c.before.if1.false)
+returns-2 c = rw (← c.before.before.run_end.ensures, lt-leb _ _ c.before.if1.false)
 
 pub line-ends-spec : {M : Type 1} → statement M
 line-ends-spec = tie.close (tie.spec run-end-requires returns shared-slice-read-result returns-2)

@@ -44,17 +44,17 @@ run-end-requires c κs = search rules
 
 add-i-2 : tie.Need-overflow-add-i-2 invariant-loop decreases-loop
 add-i-2 c =
-    let g : c.run_end_lem.result ≤ length c.before.before.before.before.before.before.before.before.args.text.now = rw c.run_end_lem.ensures (run_le _ _ _ (le_of_lt c.before.before.before.before.if1.false)) in
+    let g : c.run_end.result ≤ length c.before.before.before.before.before.before.before.before.args.text.now = rw c.run_end.ensures (run_le _ _ _ (le_of_lt c.before.before.before.before.if1.false)) in
     omega arith
 
 loop-less-2 : tie.Need-loop-smaller-2 invariant-loop decreases-loop
 loop-less-2 c =
     let g : c.before.before.before.before.before.before.loop.i ≤ c.before.before.before.before.before.blanks-end.result = rw c.before.before.before.before.before.blanks-end.ensures (run_ge _ _ _) in
-    let h : c.before.before.before.before.before.blanks-end.result ≤ c.run_end_lem.result = rw c.run_end_lem.ensures (run_ge _ _ _) in
+    let h : c.before.before.before.before.before.blanks-end.result ≤ c.run_end.result = rw c.run_end.ensures (run_ge _ _ _) in
     omega arith
 
 loop-again-2 : tie.Need-loop-preserved-2 invariant-loop decreases-loop
-loop-again-2 c = rw c.run_end_lem.ensures (sym (lines_comment _ _ _ c.before.before.before.before.before.blanks-end.ensures c.before.before.before.before.if1.false c.before.before.if2.false c.before.if3.true) ∙ c.before.before.before.before.before.before.loop.invariant)
+loop-again-2 c = rw c.run_end.ensures (sym (lines_comment _ _ _ c.before.before.before.before.before.blanks-end.ensures c.before.before.before.before.if1.false c.before.before.if2.false c.before.if3.true) ∙ c.before.before.before.before.before.before.loop.invariant)
 
 returns-2 : tie.Need-returns-2 invariant-loop decreases-loop
 returns-2 c = sym (lines-column _ _ _ c.before.before.before.before.before.blanks-end.ensures c.before.before.before.before.if1.false c.before.before.if2.false c.before.if3.false c.if4.true) ∙ c.before.before.before.before.before.before.loop.invariant

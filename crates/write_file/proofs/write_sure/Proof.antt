@@ -30,7 +30,7 @@ put-table-requires c κs =
     let f = c.before.before.before.before.before.before.before.before.before.before.before.before.before.before.before.before.requires in
     let g = f.given in
     let r = f.room in
-    let q = c.table_at_lem.ensures in
+    let q = c.table_at.ensures in
     let z : a.s.table ≡ (sizes_handed a.e (handed a.names.now a.boolean-kinds.now a.number-kinds.now a.number-values.now a.string-kinds.now a.string-starts.now a.string-lengths.now (a.first.now ++ a.second.now))).table = ap (λ (t : Sizes). t.table) f.sized in
     let k = c.before.before.before.before.put_front.auto.0 in
     record { kinds_given = g.string_kinds; starts_given = g.string_starts; lengths_given = g.string_lengths; lent = f.lent; fits = omega arith }
@@ -46,7 +46,7 @@ returns c =
     let h = handed a.names.now a.boolean-kinds.now a.number-kinds.now a.number-values.now a.string-kinds.now a.string-starts.now a.string-lengths.now (a.first.now ++ a.second.now) in
     let d = lent_described a.string-kinds.now a.string-starts.now a.string-lengths.now (a.first.now ++ a.second.now) a.e.strings (λ i h q. (f.lent i h q).0) in
     let r : size_of (sizes_handed a.e h) ≤ length a.b.now = subst (λ (t : Sizes). size_of t ≤ length a.b.now) f.sized f.room in
-    file_put a.e h (string_handed h) d a.b.now c.before.before.before.before.before.before.before.put_front.new.0 c.before.before.put-table.new.0 f.sized r c.before.before.before.table_at_lem.ensures c.before.before.before.before.before.before.before.put_front.ensures c.before.before.put-table.ensures
+    file_put a.e h (string_handed h) d a.b.now c.before.before.before.before.before.before.before.put_front.new.0 c.before.before.put-table.new.0 f.sized r c.before.before.before.table_at.ensures c.before.before.before.before.before.before.before.put_front.ensures c.before.before.put-table.ensures
 
 pub write-sure-spec : {M : Type 1} → statement M
 write-sure-spec =

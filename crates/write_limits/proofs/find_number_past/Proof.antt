@@ -42,7 +42,7 @@ unfolding number_fits_at
 returns c =
     let a = c.before.before.before.before.before.before.before.before.args in
     let t = c.before.before.before.before.before.loop in
-    sym (t.invariant.1 ∙ scan_hit (okAt a.kinds.now a.values.now) t.i a.n (sym c.before.number_fits_lem.ensures ∙ not-true _ c.if1.true) c.before.before.before.before.loop-test.true)
+    sym (t.invariant.1 ∙ scan_hit (okAt a.kinds.now a.values.now) t.i a.n (sym c.before.number_fits.ensures ∙ not-true _ c.if1.true) c.before.before.before.before.loop-test.true)
 
 add-i : tie.Need-overflow-add-i invariant-loop decreases-loop
 add-i c = search rules
@@ -55,7 +55,7 @@ unfolding number_fits_at
 loop-again c =
     let a = c.before.before.before.before.before.before.before.before.args in
     let t = c.before.before.before.before.before.loop in
-    (search rules, t.invariant.1 ∙ scan_step (okAt a.kinds.now a.values.now) t.i a.n (sym c.before.number_fits_lem.ensures ∙ not-false _ c.if1.false) c.before.before.before.before.loop-test.true)
+    (search rules, t.invariant.1 ∙ scan_step (okAt a.kinds.now a.values.now) t.i a.n (sym c.before.number_fits.ensures ∙ not-false _ c.if1.false) c.before.before.before.before.loop-test.true)
 
 returns-2 : tie.Need-returns-2 invariant-loop decreases-loop
 returns-2 c =

@@ -2,8 +2,8 @@
 -- Assumes nothing.
 use borrow.Author.Tests.{le-leb, lt-leb}
 use Rattle.write_laws.proofs.AnswerLaws.{number_fits_none, number_fits_present}
-use Rattle.write_limits.proofs.number_fits_lem.Statement.{statement}
-use Rattle.write_limits.proofs.number_fits_lem.Tie as tie
+use Rattle.write_limits.proofs.number_fits.Statement.{statement}
+use Rattle.write_limits.proofs.number_fits.Tie as tie
 
 returns : tie.Need-returns
 returns c = rw (lt-leb _ _ c.if1.true)
