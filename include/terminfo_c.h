@@ -446,11 +446,11 @@ uint64_t terminfo_capability(uint8_t kind, size_t place);
  *
  * Success gives the steps, which are the items taken, times 2^24 plus the output's length
  * (terminfo_steps, terminfo_length). The output holds no NUL, whatever the string, the arguments and
- * the variables (the theorem numbers-no-nul of output_laws).
+ * the variables (the theorem numbers_no_nul of output_laws).
  *
  * The steps are at most string_length, and the output has at most 25 times string_length bytes,
  * also where 8 gives its length. So 8 is not given where buffer_length is at least
- * at + TERMINFO_EXPAND_ROOM(string_length) (the theorem numbers-bounded of room_laws).
+ * at + TERMINFO_EXPAND_ROOM(string_length) (the theorem numbers_bounded of room_laws).
  *
  * While the call runs it writes into the buffer from at on and into lasting; where it is refused, both
  * are put back before it returns.
@@ -470,7 +470,7 @@ uint64_t terminfo_expand(const uint8_t *string, size_t string_length, const int3
 #define TERMINFO_EXPAND_TEXTS_ROOM(length, texts) ((size_t)25 * (length) + (size_t)1000 * (texts))
 
 /* The same where the %s items are not counted: each takes two bytes of the string, so that there are
- * at most length / 2 (the theorem texts-half of expansion_laws). */
+ * at most length / 2 (the theorem texts_half of expansion_laws). */
 #define TERMINFO_EXPAND_TEXTS_ROOM_ANY(length) ((size_t)525 * (length))
 
 /* More bytes the output never has, whatever the string: TERMINFO_EXPAND_TEXTS_ROOM_ANY(1000). */
@@ -495,14 +495,14 @@ uint64_t terminfo_expand(const uint8_t *string, size_t string_length, const int3
  *
  * Success gives the steps times 2^24 plus the output's length, as terminfo_expand does (terminfo_steps,
  * terminfo_length). Where no text among the arguments holds a NUL, the output holds none (the theorem
- * expanding-no-nul of output_laws). Where all arguments are numbers, the call does what terminfo_expand
+ * expanding_no_nul of output_laws). Where all arguments are numbers, the call does what terminfo_expand
  * does with them.
  *
  * The steps are at most string_length, and the output has at most 25 times string_length bytes plus,
  * for each %s item of the string, as many as the longest text has: at most 1,000. So 8 is not given
  * where buffer_length is at least at + TERMINFO_EXPAND_TEXTS_ROOM(string_length, count) with the count
  * of %s items, at + TERMINFO_EXPAND_TEXTS_ROOM_ANY(string_length), or at + TERMINFO_EXPAND_MOST (the
- * theorem bounded of room_laws, and texts-half and room-most of expansion_laws).
+ * theorem bounded of room_laws, and texts_half and room_most of expansion_laws).
  *
  * While the call runs it writes into the buffer from at on and into lasting; where it is refused, both
  * are put back before it returns.

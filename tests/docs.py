@@ -2,7 +2,7 @@
 
 A block that is fenced as console holds commands, each after "$ ", and under each its whole output;
 they run one after another in a folder of the document's own that has the repository's ti, examples,
-include and target. A block fenced as c or rust begins with a comment that names the file that it is
+include and crates. A block fenced as c or rust begins with a comment that names the file that it is
 put into.
 """
 
@@ -47,7 +47,7 @@ def main():
     for document in [ROOT / "README.md", *sorted((ROOT / "docs").glob("*.md"))]:
         with tempfile.TemporaryDirectory() as name:
             folder = Path(name)
-            for part in ("ti", "examples", "include", "target"):
+            for part in ("ti", "examples", "include", "crates"):
                 os.symlink(ROOT / part, folder / part)
             total += run(document, folder)
     print(f"{total} commands of the documents print what stands there")

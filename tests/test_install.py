@@ -25,16 +25,41 @@ PROTOTYPE = re.compile(r"^(?:static inline )?((?:const )?\w+ \**terminfo_\w+\([^
 MACRO = re.compile(r"^ *#define ((\w+)\(.*)$", re.MULTILINE)  # one that takes arguments
 OTHER_USER = ["setpriv", "--reuid=65534", "--regid=65534", "--clear-groups"]
 STAND_IN = """#!/bin/sh
-# Proves nothing: writes what rt check ti writes, and the program.
-echo "run $RT_JOBS $*" >>../runs
-[ ! -e ../fails ] || { echo "rt: base proved (1 s)"; echo "an error"; echo "rt: FAILED: ti"; exit 1; }
-echo "rt: base proved (1 s)"
-sleep "${WAIT:-0}"
-echo "rt: ti proved (2 s)"
-mkdir -p target/bin target/staticlib
-cp ../program target/bin/ti
-case $1 in staticlib) echo archive >target/staticlib/lib$2.a ;; esac
-echo "rt: ok, 2 crates proved"
+# Proves nothing: writes what rt writes, and the program or a library.
+top=$(dirname "$0")/..
+crate=${PWD##*/}
+echo "$crate $*" >>"$top/runs"
+fails() {
+    [ ! -e "$top/fails" ] || { echo "an error"; exit 1; }
+}
+proved() {
+    echo "fn $1::f: proved"
+    echo "logic=proved functions=1"
+}
+case $1 in
+all)
+    echo "== base"
+    proved base
+    sleep "${WAIT:-0}"
+    echo "== ti"
+    fails
+    proved ti
+    echo "== summary"
+    ;;
+run)
+    proved base
+    fails
+    mkdir -p out
+    cp "$top/program" out/ti
+    echo "rt: running out/ti; to give it other input, run that file yourself"
+    exit 2
+    ;;
+lib)
+    fails
+    mkdir -p out
+    echo archive >"out/lib$crate.a"
+    ;;
+esac
 """
 PROGRAM = """#!/bin/sh
 echo "called by $*"
@@ -68,9 +93,10 @@ def contents(prefix):
 
 def installed():
     """The files that are put below a prefix, with their bytes and modes."""
-    files = {"bin/ti": (TI, 0o755), "lib/chulindafe/ti": (ROOT / "target/bin/ti", 0o755),
-             "lib/libterminfo_c.a": (ROOT / "target/staticlib/libterminfo_c.a", 0o644),
-             "lib/libterminfo_texts_c.a": (ROOT / "target/staticlib/libterminfo_texts_c.a", 0o644),
+    files = {"bin/ti": (TI, 0o755), "lib/chulindafe/ti": (ROOT / "crates/ti/out/ti", 0o755),
+             "lib/libterminfo_c.a": (ROOT / "crates/terminfo_c/out/libterminfo_c.a", 0o644),
+             "lib/libterminfo_texts_c.a":
+                 (ROOT / "crates/terminfo_texts_c/out/libterminfo_texts_c.a", 0o644),
              "share/man/man1/ti.1": (ROOT / "docs/man/ti.1", 0o644),
              "share/man/man3/terminfo_c.3": (ROOT / "docs/man/terminfo_c.3", 0o644)}
     for header in (ROOT / "include").glob("*.h"):
@@ -200,15 +226,17 @@ def check_pages():
 
 
 def repository(name):
-    """A repository of two crates with ti, and a folder with a stand-in for rt."""
+    """A repository of some crates with ti, and a folder with a stand-in for rt."""
     top = folder / name
     (top / "bin").mkdir(parents=True)
     (top / "repository").mkdir()
     shutil.copy(TI, top / "repository/ti")
-    (top / "repository/crates").mkdir()
+    for crate in ("ti", "terminfo_c", "terminfo_texts_c"):
+        (top / "repository/crates" / crate).mkdir(parents=True)
     for part in ("include", "docs/man"):
         shutil.copytree(ROOT / part, top / "repository" / part)
-    crates = "# two crates\nbase:\nlone:\nti: base io\nterminfo_c: base\nterminfo_texts_c: base\n"
+    crates = "# some crates\nbase:\nlone:\nti: base io\n"
+    crates += "terminfo_c staticlib: base\nterminfo_texts_c staticlib: base\n"
     (top / "repository/crates.txt").write_text(crates, encoding="utf-8")
     for path, text in (("bin/rt", STAND_IN), ("program", PROGRAM)):
         (top / path).write_text(text, encoding="utf-8")
@@ -220,8 +248,13 @@ def rt_runs(top):
     return (top / "runs").read_text(encoding="utf-8").splitlines() if (top / "runs").exists() else []
 
 
-def await_rt(top, count):
-    while len(rt_runs(top)) < count:
+def builds(top):
+    """How often ti began to prove and build."""
+    return sum(" all check " in words for words in rt_runs(top))
+
+
+def await_build(top, count):
+    while builds(top) < count:
         time.sleep(0.1)
 
 
@@ -233,13 +266,13 @@ def check_build():
     same(errors, "ti: rt, of the Rattle kit, is not on the path\n", "no rt")
     (top / "fails").touch()
     _, errors = run([ti, "a"], status=2, PATH=path)
-    same("an error\nrt: FAILED: ti\nrt ended with status 1\nti: not proved" in errors, True, errors)
-    same("\nrt: base proved" in errors, False, errors)
+    same("an error\nrt ended with status 1\nti: not proved" in errors, True, errors)
+    same("base::f: proved" in errors, False, errors)
     (top / "fails").unlink()
     (top / "runs").unlink()
     out, errors = run([ti, "a", "b c", ""], PATH=path, RT_JOBS=str(jobs))
     same(out, "called by plain a b c \n", "words")
-    same(errors.splitlines()[1:], ["ti: proved 1 of 2: base", "ti: proved 2 of 2: ti"], "progress")
+    same(errors.splitlines()[1:], ["ti: proved 1 of 5: base", "ti: proved 2 of 5: ti"], "progress")
     same(run([ti, "a"], PATH=PATH), ("called by plain a\n", ""), "second call")
     (top / "repository/crates.txt").touch()
     run([ti, "a"], PATH=PATH)
@@ -247,12 +280,12 @@ def check_build():
     for words in (["compile", top / "pipe"], ["merge", "a", "b", top / "pipe"]):
         same(run([ti, *words], status=2, PATH=PATH), ("", f"ti: {top}/pipe: not a regular file\n"), words)
     same(run([ti, "compile", TI], PATH=PATH)[0], f"called by plain compile {TI}\n", "regular file")
-    same(rt_runs(top), [f"run {jobs} check ti"], "runs of rt")
+    same(rt_runs(top), [f"repository all check --jobs {jobs}", "ti run"], "runs of rt")
     out, _ = run([ti, "build"], PATH=path)
-    same(out, f"built: {top}/repository/target/bin/ti\n", "build")
+    same(out, f"built: {top}/repository/crates/ti/out/ti\n", "build")
     run([ti, "install", top / "prefix"], PATH=path, RT_JOBS="7")
-    same(rt_runs(top)[2:], [f"run 7 {words}" for library in ("terminfo_c", "terminfo_texts_c")
-                            for words in ("check base", f"staticlib {library}")], "libraries")
+    same(rt_runs(top)[4:], [words for library in ("terminfo_c", "terminfo_texts_c")
+                            for words in ("repository all check --jobs 7", f"{library} lib")], "libraries")
     for library in ("terminfo_c", "terminfo_texts_c"):
         same((top / f"prefix/lib/lib{library}.a").read_bytes(), b"archive\n", library)
     later = time.time() + 10
@@ -272,19 +305,19 @@ def check_lock():
     for i, call in enumerate(calls):
         out, errors = call.communicate()
         same((call.returncode, out.decode()), (0, f"called by plain {i}\n"), errors.decode())
-    same(len(rt_runs(top)), 1, "runs of rt")
+    same(builds(top), 1, "builds")
     call = subprocess.Popen([ti, "build"], start_new_session=True,
                             **{**words, "env": {**words["env"], "WAIT": "60"}})
-    await_rt(top, 2)
+    await_build(top, 2)
     os.killpg(call.pid, signal.SIGKILL)
     call.communicate()
     out, errors = run([ti, "after"], PATH=path)
-    same((out, len(rt_runs(top)), lock.is_symlink()), ("called by plain after\n", 3, False), errors)
+    same((out, builds(top), lock.is_symlink()), ("called by plain after\n", 3, False), errors)
     call = subprocess.Popen([ti, "build"], **words)
-    await_rt(top, 4)
+    await_build(top, 4)
     call.terminate()  # ti alone: rt goes on, and the lock with it
     same(run([ti, "next"], PATH=path)[0], "called by plain next\n", "terminated")
-    same((call.wait(), len(rt_runs(top))), (143, 4), "terminated")
+    same((call.wait(), builds(top)), (143, 4), "terminated")
     call.communicate()
     for owner in (f"{call.pid} 1", f"{os.getpid()} 1"):  # gone; a number that another process has now
         lock.symlink_to(owner)
@@ -292,7 +325,7 @@ def check_lock():
     lock.symlink_to(f"{call.pid} 1")
     several = [subprocess.Popen([ti, "again"], **words) for _ in range(6)]
     same([c.communicate()[0] for c in several], 6 * [b"called by plain again\n"], "recovered at once")
-    same((len(rt_runs(top)), lock.is_symlink()), (7, False), "recovered")
+    same((builds(top), lock.is_symlink()), (7, False), "recovered")
 
 
 if __name__ == "__main__":

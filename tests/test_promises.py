@@ -6,6 +6,7 @@ an edit, a file or a folder below crates/. A crate lists the crates that its fil
 
 import re
 import sys
+from itertools import chain
 from pathlib import Path
 
 ROOT = Path(__file__).resolve().parent.parent
@@ -33,17 +34,18 @@ def promised():
 
 def named(crate, listed):
     """The crates that a crate's files name."""
-    names = set()
-    for file in (CRATES / crate).rglob("*"):
+    names, of_std = set(), set()
+    for file in chain(*((CRATES / crate / part).rglob("*") for part in ("src", "specs", "proofs"))):
         if file.suffix not in (".rt", ".antt"):
             continue
         text = file.read_text(encoding="utf-8")
-        names.update(re.findall(r"Rattle·(\w+?)(?:·|\.)", text))
+        names.update(re.findall(r"Rattle\.(\w+)\.", text))
         if file.suffix == ".rt":
             code = "\n".join(line.split("//")[0] for line in text.split("\n"))
             names.update(re.findall(r"(?<![\w:])([a-z_]\w*)::", code))
+            of_std.update(*(re.findall(r"\w+", use) for use in re.findall(r"\buse std::([^;]*);", code)))
     own = {file.stem for file in (CRATES / crate / "src").rglob("*.rt")}
-    return {name for name in names if name in listed or name in KIT} - own - {crate, "std"}
+    return {name for name in names if name in listed or name in KIT} - own - of_std - {crate, "std"}
 
 
 def main():
@@ -56,7 +58,7 @@ def main():
         line = line.split("#")[0]
         if line.strip():
             crate, _, names = line.partition(":")
-            listed[crate.strip()] = set(names.split())
+            listed[crate.split()[0]] = set(names.split())
     for crate, names in listed.items():
         has = named(crate, listed)
         wrong += [f"crates.txt: {crate} names {name} and doesn't list it" for name in sorted(has - names)]

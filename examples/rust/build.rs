@@ -3,12 +3,12 @@
 use std::path::PathBuf;
 
 fn main() {
-    let folder = std::env::var_os("TERMINFO_C_LIB").map(PathBuf::from).unwrap_or_else(|| {
-        PathBuf::from(env!("CARGO_MANIFEST_DIR")).join("../../target/staticlib")
-    });
+    let given = std::env::var_os("TERMINFO_C_LIB").map(PathBuf::from);
     println!("cargo:rerun-if-env-changed=TERMINFO_C_LIB");
-    println!("cargo:rustc-link-search=native={}", folder.display());
     for library in ["terminfo_texts_c", "terminfo_c"] {
+        let built = format!("{}/../../crates/{library}/out", env!("CARGO_MANIFEST_DIR"));
+        let folder = given.clone().unwrap_or_else(|| PathBuf::from(built));
+        println!("cargo:rustc-link-search=native={}", folder.display());
         let archive = folder.join(format!("lib{library}.a"));
         assert!(archive.is_file(), "{} is missing: run examples/library", archive.display());
         println!("cargo:rerun-if-changed={}", archive.display());

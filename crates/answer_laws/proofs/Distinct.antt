@@ -22,21 +22,21 @@ by_back says b law = by_inverse says (λ a. b (back.plain a)) law
 
 pub distinct : Distinct
 distinct = record {
-  file = λ x y n p. sym (back.file-back x) ∙ (λ i. back.file (n i) (p i)) ∙ back.file-back y;
-  text = by_inverse text_number back.text back.text-back;
-  judged = by_back says_judged back.judged back.judged-back;
-  opened = by_back says_opened back.opened back.opened-back;
-  names = by_back says_names back.names back.names-back;
-  boolean = by_back says_boolean back.boolean back.boolean-back;
-  number = by_back says_number back.number back.number-back;
-  string = by_back says_string back.string back.string-back;
-  beyond = by_back says_beyond back.beyond back.beyond-back;
-  refusal = by_back says_refusal back.refusal back.refusal-back;
+  file = λ x y n p. sym (back.file_back x) ∙ (λ i. back.file (n i) (p i)) ∙ back.file_back y;
+  text = by_inverse text_number back.text back.text_back;
+  judged = by_back says_judged back.judged back.judged_back;
+  opened = by_back says_opened back.opened back.opened_back;
+  names = by_back says_names back.names back.names_back;
+  boolean = by_back says_boolean back.boolean back.boolean_back;
+  number = by_back says_number back.number back.number_back;
+  string = by_back says_string back.string back.string_back;
+  beyond = by_back says_beyond back.beyond back.beyond_back;
+  refusal = by_back says_refusal back.refusal back.refusal_back;
   listed = by_back says_listed back.listed back.listed_back;
   written = by_back says_written back.written back.written_back;
-  merged = by_inverse says_merged back.merged back.merged-back;
-  compiled = by_back says_compiled back.compiled back.compiled-back;
+  merged = by_inverse says_merged back.merged back.merged_back;
+  compiled = by_back says_compiled back.compiled back.compiled_back;
   name = by_back says_name back.name back.name_back;
   found = by_back says_found back.found back.found_back;
-  expansion = by_back says_expansion back.expansion back.expansion-back;
+  expansion = by_back says_expansion back.expansion back.expansion_back;
 }

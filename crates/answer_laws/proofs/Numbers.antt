@@ -398,7 +398,7 @@ counts_tell c d h k e =
 expansion_tells : Tells says_expansion ExpansionWithin (numbered counts_code)
 expansion_tells =
     telling says_expansion ExpansionWithin CountsOk counts_code expansion_fits (λ c h. omega arith) counts_tell
-    back.expansion (λ r _. back.expansion-back r)
+    back.expansion (λ r _. back.expansion_back r)
 
 -- ---- merging, whose refusals of a file have two values
 
@@ -456,9 +456,9 @@ merged_back : (r : Merged) → MergedWithin r → unfolded (back.plain (folded (
 merged_back (G.File n) h = refl
 merged_back G.Edition h = refl
 merged_back (G.First r) h =
-    ap (λ (a : Answer ℕ). unfolded (back.plain a)) (file_folded 1 r) ∙ file_unfolded 1 r h ∙ ap G.First (back.file-back r)
+    ap (λ (a : Answer ℕ). unfolded (back.plain a)) (file_folded 1 r) ∙ file_unfolded 1 r h ∙ ap G.First (back.file_back r)
 merged_back (G.Second r) h =
-    ap (λ (a : Answer ℕ). unfolded (back.plain a)) (file_folded 2 r) ∙ file_unfolded 2 r h ∙ ap G.Second (back.file-back r)
+    ap (λ (a : Answer ℕ). unfolded (back.plain a)) (file_folded 2 r) ∙ file_unfolded 2 r h ∙ ap G.Second (back.file_back r)
 merged_back G.Size h = refl
 merged_back (G.Room n) h = refl
 
@@ -556,7 +556,7 @@ numbers =
     record {
       names =
           telling says_names NamesWithin PartWithin part_code names_fits (λ p h. omega arith) part_tells
-          back.names (λ r _. back.names-back r);
+          back.names (λ r _. back.names_back r);
       boolean =
           kinded_telling says_boolean Any (StateOk Any) (state_code none) boolean_fits booleans_below
           (state_tells Any none (λ x h. omega arith) (λ x y h k e. refl)) back.boolean boolean_back;
@@ -581,7 +581,7 @@ numbers =
       merged_file = file_byte;
       compiled =
           telling says_compiled (λ r. Bounded (says_compiled r)) InFile (λ n. n) compiled_fits in_file_below
-          (λ x y h k e. e) back.compiled (λ r _. back.compiled-back r);
+          (λ x y h k e. e) back.compiled (λ r _. back.compiled_back r);
       name =
           telling says_name NameWithin (λ w. w < 2 ^ 56) (λ w. w) name_fits (λ w h. h) (λ x y h k e. e)
           back.name (λ r _. back.name_back r);

@@ -1,5 +1,7 @@
 // Arguments of `ti expand` as words of its command line (document 02, 2026-07). Proved: `parse` gives what
 // specs/Argument.antt says of every word. Assumed: nothing.
+#![tactic(auto)]
+
 ghost use Rattle.std.specs.Prelude.{◌≡◌};
 ghost use Rattle.number_words.specs.Number.{is_numeral};
 ghost use Rattle.argument_words.specs.Argument.{unsigned, number_of, argument_of};

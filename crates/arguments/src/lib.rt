@@ -1,5 +1,7 @@
 // The nine arguments of an expansion: numbers, and texts that lie in what was lent (document 02, 2026-07). Proved:
 // each function is its definition of expansion/specs. Assumed: nothing.
+#![tactic(auto)]
+
 ghost use Rattle.std.specs.Prelude.{◌≡◌, List, ℕ, length};
 ghost use Rattle.expansion.specs.declared.Operand.TheVariants.{Number};
 ghost use Rattle.expansion.specs.Arguments.{lies_in, is_short, each_passes, numbers_given};

@@ -1,6 +1,8 @@
 // What stands at the position that a file's refusal gives: a slot of a list, or the pad byte (document 02, 2026-05).
 // Proved: it is what specs/Slots.antt says, which is the first bad byte or slot of a file that reading refuses.
 // Assumed: nothing.
+#![tactic(auto)]
+
 ghost use Rattle.std.specs.Prelude.{◌≡◌, ◌-◌, ◌≤◌, length};
 ghost use Rattle.entry.specs.Layout.{sizes_of};
 ghost use Rattle.file_tables.specs.Framed.{Shorts};

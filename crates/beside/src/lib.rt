@@ -1,5 +1,7 @@
 // The name of a temporary file in the folder of another. Proved: `name_beside` puts what specs/Beside.antt says.
 // Assumed: nothing.
+#![tactic(auto)]
+
 ghost use Rattle.std.specs.Prelude.{◌≡◌, ◌+◌, ◌≤◌, length, take};
 ghost use Rattle.io.specs.Counts.{IsPrefixLen};
 ghost use Rattle.beside.specs.Beside.{folder_in, beside};

@@ -1,5 +1,7 @@
 // The nine arguments of an expansion as C lends them: four arrays (document 02, 2026-07). Proved: `given` is
 // arguments_given of specs/. Assumed: nothing.
+#![tactic(auto)]
+
 ghost use Rattle.std.specs.Prelude.{◌≡◌};
 ghost use Rattle.c_arguments.specs.Given.{argument_given, arguments_given};
 

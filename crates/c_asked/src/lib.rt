@@ -1,5 +1,7 @@
 // The work of the calls for C that ask: states at places, names by their places, places and states by names, each as
 // one 64-bit number (include/terminfo_c.h). Proved: each says as much as what it asks. Assumed: nothing.
+#![tactic(auto)]
+
 ghost use Rattle.std.specs.Prelude.{◌≡◌, get_or};
 ghost use Rattle.base.specs.Tabulate.{tabulate};
 ghost use Rattle.entry.specs.Asking.{opening};

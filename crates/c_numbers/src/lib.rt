@@ -1,6 +1,8 @@
 // Answers as 64-bit numbers, for the calls for C and Rust (include/terminfo_c.h): the refusal's number in the top
 // byte, 0 for success, and below it what the refusal or the call gives. Proved: each number is the one that
 // specs/Numbers.antt gives for what the answer says. Assumed: nothing.
+#![tactic(auto)]
+
 ghost use Rattle.std.specs.Prelude.{◌≡◌, ◌+◌, ◌*◌, ◌^◌};
 ghost use Rattle.entry.specs.Says.{file_number, file_position};
 ghost use Rattle.entry.specs.Says.{says_names, says_boolean, says_number, says_string, says_written, says_merged};

@@ -1,5 +1,7 @@
 // The byte that `%c` prints (document 02, 2026-04). Proved: it is `character` of specs for every value, and no NUL.
 // Assumed: nothing.
+#![tactic(auto)]
+
 ghost use Rattle.std.specs.Prelude.{◌≡◌};
 ghost use Rattle.characters.specs.Character.{character};
 

@@ -1,5 +1,7 @@
 // The fields of a description, judged one after the other without keeping their states; the places of its uses are kept
 // (document 02, 2026-02). Proved: `check` comes to what `sayings_from` of text/specs gives. Assumed: nothing.
+#![tactic(auto)]
+
 ghost use Rattle.std.specs.Prelude.{◌*◌, ◌≤◌, length};
 ghost use Rattle.text.specs.Bytes.{text_most};
 ghost use Rattle.compile_laws.specs.Listed.{uses_room};

@@ -3,6 +3,8 @@
 // nothing. The number kept along the items holds the open conditionals, two bits each, the innermost lowest: 1 a
 // condition from `%?` on, 2 a body, 3 what follows `%e`. Items that are quickly told are passed by `scan`, any other
 // is judged by its class.
+#![tactic(auto)]
+
 ghost use Rattle.std.specs.Prelude.{◌≡◌, ◌+◌, ◌≤◌, ◌<◌, length};
 ghost use Rattle.expansion.specs.Form.{form_of};
 ghost use Rattle.conditionals.specs.Walk.{nested_most, nested};

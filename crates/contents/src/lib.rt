@@ -1,5 +1,7 @@
 // The content of a string of source text, counted and put into a buffer (document 01: Source text). Proved: each
 // function answers every text and place as text/specs says. Assumed: nothing.
+#![tactic(auto)]
+
 ghost use Rattle.std.specs.Prelude.{◌≡◌, ◌+◌, ◌<◌, ◌^◌, length};
 ghost use Rattle.base.specs.Overwrite.{put_at};
 ghost use Rattle.text.specs.Bytes.{between};

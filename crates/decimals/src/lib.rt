@@ -1,5 +1,7 @@
 // Decimal digits (document 01: Expansion; document 02, 2026-03), two at a time from the table of pairs. Proved: their
 // count and their bytes are those of `digits` of expansion/specs; at most five rounds. Assumed: nothing.
+#![tactic(auto)]
+
 ghost use Rattle.std.specs.Prelude.{◌≡◌, ◌-◌, ◌*◌, ◌/◌, ◌^◌, ◌≤◌, length};
 ghost use Rattle.base.specs.Overwrite.{put_at};
 ghost use Rattle.decimals.specs.Decimals.{decimal_digits, last_pairs};

@@ -1,1 +1,2 @@
 // Demand 3 whole. No code: see specs/.
+#![tactic(auto)]

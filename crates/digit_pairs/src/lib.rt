@@ -2,6 +2,8 @@
 // whose rule it is the two digits of k. Assumed: nothing.
 //
 // One arm for each k: such a `match` is compiled into one load, without a test where k is a remainder by 100.
+#![tactic(auto)]
+
 ghost use Rattle.std.specs.Prelude.{◌≡◌, [], ◌<◌, get_or};
 ghost use Rattle.word.specs.Word.{word};
 ghost use Rattle.digit_pairs.specs.Pairs.{pairs};

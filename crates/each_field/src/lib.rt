@@ -2,6 +2,8 @@
 // (document 01: Source text). One loop serves both of its callers, so that judging a field stands once in the program:
 // the states that the fields give are kept, or the places of the uses among them. Proved: `each` comes to what
 // `sayings_from` of text/specs gives. Assumed: nothing.
+#![tactic(auto)]
+
 ghost use Rattle.std.specs.Prelude.{◌≡◌, true, false, [], ◌+◌, ◌≤◌, ◌<◌, length};
 ghost use Rattle.entry.specs.Handed.{handed};
 ghost use Rattle.judge.specs.Judged.{SaidIn};

@@ -1,4 +1,6 @@
 // The three ordered lists of capabilities (document 01: Three ordered lists): editions, places, kinds.
+#![tactic(auto)]
+
 ghost use Rattle.std.specs.Prelude.{◌≡◌};
 ghost use Rattle.edition.specs.Edition.{ok_edition};
 

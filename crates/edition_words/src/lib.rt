@@ -1,5 +1,7 @@
 // Editions as words of a command line: `1`, `2`, or three counts as `21,8,138`. Proved: `parse` gives what
 // specs/Words.antt says of every word. Assumed: nothing.
+#![tactic(auto)]
+
 ghost use Rattle.std.specs.Prelude.{◌≡◌, ◌∷◌};
 ghost use Rattle.names.specs.Names.{parted};
 ghost use Rattle.edition_words.specs.Words.{edition_of, numbered, counted, counted_by, count_in, before_comma};

@@ -1,5 +1,6 @@
 // The compiled entry's numbers and types: what calls take and what they answer. The meaning of all of them is in
 // specs/.
+#![tactic(auto)]
 
 // The header's first short.
 pub const MAGIC: usize = 282;

@@ -1,1 +1,2 @@
 // Theorems about compiled entries. No code: see specs/.
+#![tactic(auto)]

@@ -1,6 +1,8 @@
 // What opening gave for a file, as numbers, and the questions about them (document 01: Compiled entry): numbers that
 // opening wouldn't give for the file are answered 17. Proved: each function answers every file and all numbers as
 // specs/ says. Assumed: nothing.
+#![tactic(auto)]
+
 ghost use Rattle.std.specs.Prelude.{◌≡◌, ◌+◌, ◌≤◌, length};
 ghost use Rattle.entry.specs.Asking.{part_given, names_given};
 ghost use Rattle.entry.specs.Says.{says_names, says_boolean, says_number, says_string, says_opened};

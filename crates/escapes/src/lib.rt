@@ -1,6 +1,8 @@
 // What stands at a place of a string of source text: a byte, an escape, a line end that is removed, the comma; and a
 // byte of a string as it is stored (document 01: Source text). Proved: `item_at` is string_item_at of text/specs, and
 // `stored_byte` is its stored_byte. Assumed: nothing.
+#![tactic(auto)]
+
 ghost use Rattle.std.specs.Prelude.{◌≡◌, ◌+◌, ◌≤◌, ◌<◌, ◌^◌, length};
 ghost use Rattle.text.specs.Strings.{letter_of, is_control, octal_of, escape_at, caret_at, line_end_at, stored_byte};
 ghost use Rattle.text.specs.Strings.{string_item_at};

@@ -1,4 +1,5 @@
 // The types of parameterized strings and their expansion (document 01: Expansion). Their meaning is in specs/.
+#![tactic(auto)]
 
 // The base that a number is printed in.
 #[derive(Clone, Copy)]

@@ -1,5 +1,7 @@
 // The fields of source text (document 01: Source text). Proved: each function answers every text and place as
 // text/specs says. Assumed: nothing.
+#![tactic(auto)]
+
 ghost use Rattle.std.specs.Prelude.{◌≡◌, ◌+◌, ◌-◌, ◌≤◌, ◌<◌, length};
 ghost use Rattle.text.specs.Fields.{form_at, named_at, field_at};
 

@@ -1,1 +1,2 @@
 // Where a refused file is bad. No code: see specs/.
+#![tactic(auto)]

@@ -1,6 +1,8 @@
 // The checks of a file's tables, each of them over every byte or slot of its table (document 01: Compiled entry), and
 // the position of the first bad one where a check fails (document 02, 2026-05), which is looked for then only. Proved:
 // each function is its definition of entry/specs. Assumed: nothing.
+#![tactic(auto)]
+
 ghost use Rattle.std.specs.Prelude.{◌≡◌, ◌&&◌, ◌+◌, ◌*◌, ◌<◌, ◌≤◌, ltb, length, get_or};
 ghost use Rattle.base.specs.Scan.{scan};
 ghost use Rattle.word.specs.Word.{word};

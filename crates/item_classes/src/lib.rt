@@ -1,6 +1,8 @@
 // The classes of items: what an item is to the conditionals around it, and the place behind it, without the item
 // itself (document 01: Expansion). Proved: `class_at` is class_at of the crate expansion at each place of each string.
 // Assumed: nothing.
+#![tactic(auto)]
+
 ghost use Rattle.std.specs.Prelude.{◌≡◌, Bool, ℕ, ◌+◌, ◌≤◌, ◌<◌, length};
 ghost use Rattle.expansion.specs.Items.{argument_at, quoted_at, braced_at, store_at, load_at, format_at, width_at, percent_at};
 ghost use Rattle.expansion.specs.Form.{class_at};

@@ -1,5 +1,7 @@
 // The bytes of items: digits, letters, constants in braces and in quotes, an argument that is tested (document 01:
 // Expansion). Proved: each function is its definition of expansion/specs or of specs/. Assumed: nothing.
+#![tactic(auto)]
+
 ghost use Rattle.std.specs.Prelude.{◌≡◌, true, ◌+◌, ◌≤◌, ◌<◌, length};
 ghost use Rattle.expansion.specs.Items.{byte_at, is_digit, is_nonzero, is_letter, braced_at};
 ghost use Rattle.item_parts.specs.Classes.{quoted, lexed_constant};

@@ -1,6 +1,8 @@
 // The items of a right string, for its run (document 01: Expansion). The check for 14 has accepted them, so that no
 // test is made that it has made. Proved: `item_at` reads itemAt of the crate expansion at each right item. Assumed:
 // nothing.
+#![tactic(auto)]
+
 ghost use Rattle.std.specs.Prelude.{◌≡◌};
 ghost use Rattle.expansion.specs.declared.Item.TheVariants.{Number};
 ghost use Rattle.expansion.specs.Items.{byte_at, lexed, braced_at, format_at, width_at, percent_at};

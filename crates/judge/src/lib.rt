@@ -1,5 +1,7 @@
 // Judges a field of source text (document 01: Numbers of refusal, 10 to 13). Proved: `judge` answers every text,
 // place and edition as `judging` of text/specs says. Assumed: nothing.
+#![tactic(auto)]
+
 ghost use Rattle.std.specs.Prelude.{◌≡◌, ◌<◌, length};
 ghost use Rattle.names.specs.Names.{ascii};
 ghost use Rattle.names.specs.Lookup.{same_bytes};

@@ -1,5 +1,7 @@
 // The states that fields give, kept by place: the first field for a capability stands (document 01: Source text).
 // Proved: each function keeps what compile_laws/specs says. Assumed: nothing.
+#![tactic(auto)]
+
 ghost use Rattle.std.specs.Prelude.{◌≡◌, [], ◌<◌, eqb, length, get_or};
 ghost use Rattle.judge.specs.Judged.{SaidIn};
 ghost use Rattle.entry.specs.Handed.{handed};

@@ -1,6 +1,8 @@
 // The walk to where a conditional's level ends (document 01: Expansion; document 02, 2026-06). It comes after the check
 // for 14, and has no test for the string's end. Proved: `pass` ends just past the `%e` or `%;` that `PastLevel` of
 // level_laws/specs/Levels.antt names. Assumed: nothing.
+#![tactic(auto)]
+
 ghost use Rattle.std.specs.Prelude.{◌≡◌, ◌≤◌, ◌<◌, length};
 ghost use Rattle.expansion.specs.Limits.{string_most};
 ghost use Rattle.level_laws.specs.Levels.{PastLevel, OpenAt};

@@ -1,1 +1,2 @@
 // Laws alone: they stand in specs/ and proofs/.
+#![tactic(auto)]

@@ -1,6 +1,8 @@
 // Every state of an edition in one call: the file is opened once, and the states go into lent arrays by place, as the
 // writer takes them (document 01: Compiled entry). Proved: `list` answers every file, edition and array as `listing` of
 // specs/ says, and a refusal changes no array. Assumed: nothing.
+#![tactic(auto)]
+
 ghost use Rattle.std.specs.Prelude.{◌≡◌, ◌≤◌, length};
 ghost use Rattle.base.specs.Answer.{gives};
 ghost use Rattle.base.specs.Overwrite.{put_at};

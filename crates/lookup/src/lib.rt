@@ -1,5 +1,7 @@
 // Looks names up (document 01: Three ordered lists). Proved: `find` answers every slice of bytes and every edition as
 // `looking_up` of names/specs says. Assumed: nothing.
+#![tactic(auto)]
+
 ghost use Rattle.std.specs.Prelude.{◌≡◌, ◌+◌, ◌<◌, length, get_or};
 ghost use Rattle.word.specs.Word.{word};
 ghost use Rattle.names.specs.Lookup.{looking_up};

@@ -1,6 +1,8 @@
 // The machine that expands a string, item by item (document 01: Expansion): how many values an item pops, and what an
 // item that needs neither the arguments nor another place does once its values are popped. Proved: each function is
 // its definition of expansion/specs. Assumed: nothing.
+#![tactic(auto)]
+
 ghost use Rattle.std.specs.Prelude.{◌≡◌, List, ℤ, ◌≤◌};
 ghost use Rattle.print.specs.Bounds.{output_most};
 ghost use Rattle.expansion.specs.Values.{Value, number};
@@ -20,6 +22,7 @@ pub enum Step {
 }
 
 // How many values an item pops.
+#[tactic(auto, unfolding(expansion::specs::Machine::arity))]
 pub fn arity(item: Item) -> usize
     ensures { result ≡ arity item }
 {

@@ -1,6 +1,8 @@
 // Merges compiled entries (document 01: Compiled entry, order of merging). Proved: `merge` answers every edition and
 // every two slices of bytes as `merging` of entry/specs says, and a refusal leaves the buffer as it was. Assumed:
 // nothing.
+#![tactic(auto)]
+
 ghost use Rattle.std.specs.Prelude.{◌++◌, length};
 ghost use Rattle.base.specs.Answer.{Leaves};
 ghost use Rattle.entry.specs.Writing.{encode, entry_of};

@@ -1,5 +1,7 @@
 // The states that a merge hands to the writer, by place: the first file's unless absent, then the second's (document
 // 01: Compiled entry). Proved: each function fills its arrays as specs/ says. Assumed: nothing.
+#![tactic(auto)]
+
 ghost use Rattle.std.specs.Prelude.{◌≡◌, ◌<◌, ◌≤◌, length};
 ghost use Rattle.entry.specs.Writing.{state_of};
 ghost use Rattle.entry.specs.Merging.{merged_boolean, merged_number};

@@ -1,5 +1,7 @@
 // The names of the three ordered lists, in compiled order (document 01: Three ordered lists). Proved: the table is
 // the lists of specs/Names.antt, and `name_of` answers every kind and place. Assumed: nothing.
+#![tactic(auto)]
+
 ghost use Rattle.std.specs.Prelude.{◌≡◌, [], ◌+◌, ◌<◌, ◌≤◌, ltb, get_or};
 ghost use Rattle.base.specs.If.{if◌then◌else◌};
 ghost use Rattle.base.specs.Answer.{refused, gives};

@@ -1,5 +1,7 @@
 // Numbers as words of a command line. Proved: `parse`, `magnitude` and `is_numeral` give what specs/Number.antt says
 // of every word. Assumed: nothing.
+#![tactic(auto)]
+
 ghost use Rattle.std.specs.Prelude.{◌≡◌, true, false};
 ghost use Rattle.number_words.specs.Number.{is_numeral, signed_of, value_of, with_digit, magnitude_of};
 

@@ -1,6 +1,8 @@
 // Names and states of a file that is opened in the edition: the caller holds the tables or the answer that opening
 // gave, and the file is not checked again. Proved: each function answers as the definition of entry/specs that its
 // contract names. Assumed: nothing.
+#![tactic(auto)]
+
 ghost use Rattle.std.specs.Prelude.{◌≡◌, ◌+◌, ◌*◌, ◌<◌, ◌≤◌, length};
 ghost use Rattle.entry.specs.Limits.{short_width};
 ghost use Rattle.entry.specs.State.{boolean_of};

@@ -1,5 +1,7 @@
 // What items compute of the values on the stack (document 01: Expansion). Proved: each function is its definition of
 // expansion/specs/Machine.antt for all values. Assumed: nothing.
+#![tactic(auto)]
+
 ghost use Rattle.std.specs.Prelude.{◌≡◌};
 ghost use Rattle.signed.specs.Signed.{is_zero};
 ghost use Rattle.expansion.specs.Machine.{applied, inverted, truth};

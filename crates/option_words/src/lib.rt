@@ -1,5 +1,7 @@
 // What a word is where the options of a command may stand. Proved: `kind_of` gives what specs/Words.antt says of every
 // word. Assumed: nothing.
+#![tactic(auto)]
+
 ghost use Rattle.std.specs.Prelude.{◌≡◌};
 ghost use Rattle.option_words.specs.Words.{own_kind, kind_of};
 

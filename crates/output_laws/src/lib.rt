@@ -1,1 +1,2 @@
 // Laws of the output of an expansion (expansion/specs). No code: see specs/.
+#![tactic(auto)]

@@ -1,5 +1,7 @@
 // The line and the column of a place in a text. Proved: `position_of` gives what specs/Position.antt says. Assumed:
 // nothing.
+#![tactic(auto)]
+
 ghost use Rattle.std.specs.Prelude.{◌≡◌, ◌≤◌, min, length};
 ghost use Rattle.positions.specs.Taken.{text_room};
 ghost use Rattle.positions.specs.Position.{line_of, column_of};

@@ -1,5 +1,7 @@
 // Numbers and bytes put into a buffer where they fit (document 01: Expansion). Proved: the length and the bytes are
 // those of `printed` of expansion/specs, put as `emitted` of specs/ says. Assumed: nothing.
+#![tactic(auto)]
+
 ghost use Rattle.std.specs.Prelude.{◌≡◌, [], ◌∷◌, ℕ, ◌+◌, ◌-◌, ◌≤◌, ◌<◌, length, replicate};
 ghost use Rattle.base.specs.Overwrite.{put_at};
 ghost use Rattle.print.specs.Bounds.{printed_most, output_most};

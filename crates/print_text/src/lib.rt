@@ -1,5 +1,7 @@
 // A text put into a buffer where it fits (document 02, 2026-07). Proved: the bytes are put as `emitted` of print/specs
 // says. Assumed: nothing.
+#![tactic(auto)]
+
 ghost use Rattle.std.specs.Prelude.{◌≡◌, ◌+◌, ◌≤◌, length, take, drop};
 ghost use Rattle.expansion.specs.Limits.{text_most};
 ghost use Rattle.print.specs.Bounds.{output_most};

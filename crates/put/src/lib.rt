@@ -1,5 +1,7 @@
 // The parts of a written file, each put into a buffer from a place on; the buffer's other bytes stay (document 01:
 // Compiled entry). Proved: each part as `encode` of entry/specs has it. Assumed: nothing.
+#![tactic(auto)]
+
 ghost use Rattle.std.specs.Prelude.{◌≡◌, [], ◌∷◌, ◌++◌, map, ◌+◌, ◌*◌, ◌<◌, ◌≤◌, ◌^◌, length};
 ghost use Rattle.base.specs.Overwrite.{put_at};
 ghost use Rattle.word.specs.Word.{bytes, words};

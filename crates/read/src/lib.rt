@@ -1,6 +1,8 @@
 // Opens compiled entries (document 01: Compiled entry, order of reading): the header, then every slot of the file,
 // whatever the edition knows; a refused file with the position of its first bad byte or slot. Proved: `judge` and
 // `open` answer every slice of bytes and every edition as `reading` and `opening` of entry/specs say. Assumed: nothing.
+#![tactic(auto)]
+
 ghost use Rattle.std.specs.Prelude.{◌≡◌, ◌+◌, ◌*◌, ◌-◌, ◌<◌, ◌≤◌, length};
 ghost use Rattle.word.specs.Word.{word};
 ghost use Rattle.entry.specs.Layout.{sizes_of, tables_of, beyond_of};

@@ -1,5 +1,7 @@
 // Document 01's number of each answer's refusal (Numbers of refusal), 0 where the call is done; and the position that
 // a file's refusal gives. Proved: each is that of the definition which says what the answer means. Assumed: nothing.
+#![tactic(auto)]
+
 ghost use Rattle.std.specs.Prelude.{◌≡◌};
 ghost use Rattle.base.specs.Answer.{number_of};
 ghost use Rattle.entry.specs.Says.{file_number, file_position, says_names, says_boolean, says_number, says_string};

@@ -1,5 +1,7 @@
 // The classes of right items: the check for 14 has accepted them, so that no test is made for the string's end
 // (document 02, 2026-06). Proved: `class_at` is class_at of the crate expansion at each right item. Assumed: nothing.
+#![tactic(auto)]
+
 ghost use Rattle.std.specs.Prelude.{◌≡◌, ◌+◌};
 ghost use Rattle.expansion.specs.Items.{digits_end, percent_at};
 ghost use Rattle.expansion.specs.Form.{class_at};

@@ -1,5 +1,7 @@
 // Bytes as people read them: those that stand for themselves, and all others by a backslash and three octal digits.
 // Proved: `show` puts what specs/Shown.antt says. Assumed: nothing.
+#![tactic(auto)]
+
 ghost use Rattle.std.specs.Prelude.{◌≡◌, ◌+◌, ◌*◌, ◌<◌, ◌≤◌, length};
 ghost use Rattle.base.specs.Overwrite.{put_at};
 ghost use Rattle.shown.specs.Puts.{Puts};

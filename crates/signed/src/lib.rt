@@ -1,5 +1,7 @@
 // 32-bit signed arithmetic as expansion has it (document 01: Expansion). Proved: each function is its definition of
 // specs/Signed.antt for all values. Assumed: nothing.
+#![tactic(auto)]
+
 ghost use Rattle.std.specs.Prelude.{◌≡◌, ◌*◌, ◌%◌, ◌^◌};
 ghost use Rattle.std.specs.Int.{w32};
 ghost use Rattle.std.proofs.Common.{of_z, to_z};

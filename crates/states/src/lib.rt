@@ -1,6 +1,8 @@
 // Asks files for names and states, place by place (document 01: Compiled entry). Proved: each call of this file
 // answers every slice of bytes, every edition and every place as the definition of entry/specs that its contract
 // names. Assumed: nothing.
+#![tactic(auto)]
+
 ghost use Rattle.std.specs.Prelude.{◌≡◌, ◌+◌, ◌≤◌, length};
 ghost use Rattle.entry.specs.Asking.{asking_names, asking_boolean, asking_number, asking_string};
 ghost use Rattle.entry.specs.Says.{says_names, says_boolean, says_number, says_string};

@@ -1,4 +1,6 @@
 // Source text's numbers and types: what the parts of the compiler answer. The meaning of all of them is in specs/.
+#![tactic(auto)]
+
 use edition::Place;
 
 // A text's most bytes.

@@ -1,5 +1,7 @@
 // The bytes of source text, their classes and runs of a class (document 01: Source text). Proved: each function
 // answers every text and place as text/specs says. Assumed: nothing.
+#![tactic(auto)]
+
 ghost use Rattle.std.specs.Prelude.{◌≡◌, ◌+◌, ◌<◌, get_or};
 ghost use Rattle.text.specs.Bytes.{digit_of, is_in, run_end};
 ghost use Rattle.text.specs.declared.ByteClass.TheVariants as Classes;

@@ -1,1 +1,2 @@
 // What a text gives in one edition and in a larger one. No code: see specs/.
+#![tactic(auto)]

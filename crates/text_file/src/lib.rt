@@ -1,5 +1,7 @@
 // The file of a description, its strings read from the text once more (document 01: Compiled entry). Proved: `write`
 // puts what `fitting_named` of text/specs gives. Assumed: nothing.
+#![tactic(auto)]
+
 ghost use Rattle.std.specs.Prelude.{◌≡◌, true, [], ◌∷◌, ◌+◌, ◌≤◌, length};
 ghost use Rattle.base.specs.Overwrite.{put_at};
 ghost use Rattle.base.specs.Tabulate.{tabulate};

@@ -1,5 +1,7 @@
 // The header of a description (document 01: Source text). Proved: `header_at` is header_at of text/specs. Assumed:
 // nothing.
+#![tactic(auto)]
+
 ghost use Rattle.std.specs.Prelude.{◌≡◌, ◌&&◌, ◌≤◌, length, drop};
 ghost use Rattle.text.specs.declared.ByteClass.TheVariants as C;
 ghost use Rattle.text.specs.Bytes.{run_end};

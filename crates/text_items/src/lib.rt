@@ -1,5 +1,7 @@
 // How many `%s` items a parameterized string has, those that are passed over included (document 02, 2026-07). Proved:
 // `count` is count_of prints_text of expansion/specs for each string. Assumed: nothing.
+#![tactic(auto)]
+
 ghost use Rattle.std.specs.Prelude.{◌≡◌, ◌<◌, length};
 ghost use Rattle.expansion.specs.Counting.{count_of, prints_text};
 ghost use Rattle.expansion_laws.specs.Counts.{count_one};

@@ -1,1 +1,2 @@
 // Laws of source text's definitions. They are in specs/.
+#![tactic(auto)]

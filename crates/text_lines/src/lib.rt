@@ -1,5 +1,7 @@
 // The lines of source text: what stands past blank lines and comment lines (document 01: Source text). Proved: each
 // function answers every text and place as text/specs says. Assumed: nothing.
+#![tactic(auto)]
+
 ghost use Rattle.std.specs.Prelude.{◌≡◌, ◌+◌, ◌<◌};
 ghost use Rattle.text.specs.Lines.{line_at, next_at};
 ghost use Rattle.text_lines.specs.Usual.{is_usual};

@@ -1,5 +1,7 @@
 // The numbers of source text (document 01: Source text). Proved: `number_at` is number_at of text/specs. Assumed:
 // nothing.
+#![tactic(auto)]
+
 ghost use Rattle.std.specs.Prelude.{◌≡◌, ◌+◌, ◌-◌, ◌≤◌, ◌<◌, ◌^◌, min, length};
 ghost use Rattle.text.specs.Bytes.{base_of};
 ghost use Rattle.entry.specs.Limits.{number_most};

@@ -1,12 +1,12 @@
 -- A text that a word is starts in the word.
 -- Assumes nothing.
-use mathlib.Core.Path.{◌≡◌, refl}
+use mathlib.Core.Path.{◌≡◌}
 use mathlib.Core.Bool.{Bool, true, false}
 use mathlib.Core.List.{List, [], ◌∷◌}
 use Prim.Native.Nat.{ℕ, ◌≤◌}
 use native.Mathlib.Omega.{arith}
 use lib.Dec.{eqb}
-use lib.ListN.{length, get_or}
+use lib.ListN.{length}
 use Rattle.base.specs.If.{if◌then◌else◌}
 use Rattle.number_words.specs.declared.Parsed.{Parsed}
 use Rattle.number_words.specs.declared.Parsed.TheVariants as P

@@ -1,5 +1,7 @@
 // The arguments that the words of `ti expand` give: numbers, and texts that lie in one block. Proved: each function is
-// safe and ends. Assumed: what libc and os say of C.
+// safe and ends. Assumed: what std says of the system.
+#![tactic(auto)]
+
 ghost use Rattle.std.specs.Prelude.{◌≡◌, ◌≤◌, length};
 
 use argument_words::ArgumentWord;
@@ -42,20 +44,23 @@ fn text(start: usize, length: usize) -> Argument {
 }
 
 // Says that a word is wrong.
-fn refuse_word() -> Taken {
-    complain(b"ti: a number is decimal, from -2147483648 to 2147483647\n");
+fn refuse_word(rt: HostRuntime) -> Taken {
+    complain(
+        rt,
+        b"ti: a number is decimal, from -2147483648 to 2147483647\n",
+    );
     Taken::Failed
 }
 
 // Puts the word at a place among all into a part of the block, which begins at start; the argument that it is. Where
 // there is none it is the number 0.
-fn take_word(place: usize, part: &mut [u8], start: usize) -> Taken
+fn take_word(rt: HostRuntime, place: usize, part: &mut [u8], start: usize) -> Taken
     requires { (start ≤ 32768) × (length part.old ≤ 4096) }
 {
-    if os::arg_count() <= place {
+    if ti_common::words::count_all(rt) <= place {
         return Taken::Argument(number(0));
     }
-    let word = ti_common::words::word_at(place, part);
+    let word = ti_common::words::word_at(rt, place, part);
     if !word.ok {
         return Taken::Failed;
     }
@@ -63,12 +68,12 @@ fn take_word(place: usize, part: &mut [u8], start: usize) -> Taken
     match argument_words::parse(&part[..n]) {
         ArgumentWord::Number(v) => Taken::Argument(number(v)),
         ArgumentWord::Text(k) => Taken::Argument(text(start + k, n - k)),
-        ArgumentWord::Wrong => refuse_word(),
+        ArgumentWord::Wrong => refuse_word(rt),
     }
 }
 
 // The nine arguments that the words from a place among all on give. Each word has its own part of the block.
-pub fn take(first: usize, block: &mut [u8]) -> Given
+pub fn take(rt: HostRuntime, first: usize, block: &mut [u8]) -> Given
     requires { (first ≤ 70000) × (length block.old ≡ 36864) }
 {
     let zero = number(0);
@@ -77,7 +82,7 @@ pub fn take(first: usize, block: &mut [u8]) -> Given
     while k < 9 {
         let start = k * WORD_ROOM;
         let end = start + WORD_ROOM;
-        match take_word(first + k, &mut block[start..end], start) {
+        match take_word(rt, first + k, &mut block[start..end], start) {
             Taken::Argument(a) => {
                 nine[k] = a;
             }

@@ -1,19 +1,20 @@
 // Bytes written as people read them.
 ghost use Rattle.std.specs.Prelude.{◌+◌, ◌*◌, ◌<◌, ◌≤◌, length};
 
-use libc::{STDERR_FILENO, STDOUT_FILENO};
+use crate::{Sent, sent_if};
 use shown::{NAMES_LEAST, show};
+use std::io::Error;
 
 // How many bytes are shown at once.
 const PIECE: usize = 256;
 
 // Writes a piece, as it is shown.
-fn write_piece(fd: i32, bytes: &[u8], least: u8) -> bool
+fn write_piece<P: Print>(to: &P, bytes: &[u8], least: u8) -> Result<(), Error>
     requires { length bytes.now ≤ 256 }
 {
     let mut out = [0u8; 4 * PIECE];
     let n = show(&mut out, 0, least, bytes);
-    io::write_all(fd, &out[..n])
+    to.write_all(&out[..n])
 }
 
 // The end of the piece that starts at a place.
@@ -28,27 +29,25 @@ fn piece_end(bytes: &[u8], at: usize) -> usize
     at + PIECE
 }
 
-// Writes bytes to a descriptor, as they are shown.
-fn write_shown(fd: i32, bytes: &[u8], least: u8) -> bool {
+// Writes bytes to standard output or error, as they are shown.
+fn write_shown<P: Print>(to: &P, bytes: &[u8], least: u8) -> Result<(), Error> {
     let mut at = 0;
     while at < bytes.len() {
         let end = piece_end(bytes, at);
-        if !write_piece(fd, &bytes[at..end], least) {
-            return false;
-        }
+        write_piece(to, &bytes[at..end], least)?;
         at = end;
     }
-    true
+    Ok(())
 }
 
 // Writes bytes to standard output, as they are shown.
-pub fn say_shown(bytes: &[u8], least: u8) -> bool {
-    write_shown(STDOUT_FILENO, bytes, least)
+pub fn say_shown(rt: HostRuntime, bytes: &[u8], least: u8) -> Sent {
+    sent_if(write_shown(&rt.stdout(), bytes, least))
 }
 
 // Writes a word in quotes to standard error, as it is shown.
-pub fn complain_quoted(word: &[u8]) {
-    crate::complain(b"'");
-    write_shown(STDERR_FILENO, word, NAMES_LEAST);
-    crate::complain(b"'");
+pub fn complain_quoted(rt: HostRuntime, word: &[u8]) {
+    crate::complain(rt, b"'");
+    let _ = write_shown(&rt.stderr(), word, NAMES_LEAST);
+    crate::complain(rt, b"'");
 }

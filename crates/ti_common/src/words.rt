@@ -1,7 +1,10 @@
 // The words that a command is given.
 ghost use Rattle.io.specs.Counts.{IsPrefixLen};
 
-use crate::{Status, complain, fail};
+use crate::{Sent, Status, complain, fail, reason};
+use std::env::FillError;
+use std::io::Error;
+use std::rt::Env;
 
 // What a command is asked to do.
 #[derive(Clone, Copy)]
@@ -43,29 +46,69 @@ pub fn is_same(a: &[u8], b: &[u8]) -> bool {
     true
 }
 
+// Why there is no word at a place.
+fn failure(why: FillError) -> Error {
+    match why {
+        FillError::NotPresent => reason::missing(),
+        FillError::TooLong => reason::too_long(),
+    }
+}
+
 // Puts the word at a place among all at the slice's start.
-pub fn word_at(place: usize, bytes: &mut [u8]) -> Word
+pub fn word_at(rt: HostRuntime, place: usize, bytes: &mut [u8]) -> Word
     ensures { IsPrefixLen result.length bytes.new }
 {
-    let length = os::arg(place, bytes);
-    let ok = os::errno() == 0;
-    if !ok {
-        fail(b"a word");
+    match rt.arg(place, bytes) {
+        Ok(length) => Word { ok: true, length },
+        Err(why) => {
+            fail(rt, b"a word", failure(why));
+            Word {
+                ok: false,
+                length: 0,
+            }
+        }
     }
-    Word { ok, length }
+}
+
+// What becomes of what was to be written of a word that was not read.
+pub fn unread() -> Sent {
+    Sent {
+        failure: Some(reason::too_long()),
+    }
+}
+
+// Puts the word at a place among all at the slice's start, and answers its length; 0 where it is missing or too long.
+pub fn word_or_none(rt: HostRuntime, place: usize, bytes: &mut [u8]) -> usize
+    ensures { IsPrefixLen result bytes.new }
+{
+    match rt.arg(place, bytes) {
+        Ok(length) => length,
+        Err(_) => 0,
+    }
 }
 
 // Puts the k-th of the words, from 0, at the slice's start.
-pub fn operand(words: Words, k: u8, bytes: &mut [u8]) -> Word
+pub fn operand(rt: HostRuntime, words: Words, k: u8, bytes: &mut [u8]) -> Word
     ensures { IsPrefixLen result.length bytes.new }
 {
-    word_at(words.first as usize + k as usize, bytes)
+    word_at(rt, words.first as usize + k as usize, bytes)
+}
+
+// How many words there are, with the program's name.
+pub fn count_all(rt: HostRuntime) -> usize {
+    let mut byte = [0u8; 1];
+    for n in 0..usize::MAX {
+        if let Err(FillError::NotPresent) = rt.arg(n, &mut byte) {
+            return n;
+        }
+    }
+    usize::MAX
 }
 
 // How many words there are.
-pub fn count(words: Words) -> usize {
+pub fn count(rt: HostRuntime, words: Words) -> usize {
     let first = words.first as usize;
-    let all = os::arg_count();
+    let all = count_all(rt);
     if all < first {
         return 0;
     }
@@ -73,24 +116,24 @@ pub fn count(words: Words) -> usize {
 }
 
 // Says how a command is called.
-fn say_usage(usage: &[u8]) -> bool {
-    crate::say(b"ti ") & crate::say(usage) & crate::say(b"\n")
+fn say_usage(rt: HostRuntime, usage: &[u8]) -> Sent {
+    crate::say(rt, b"ti ") & crate::say(rt, usage) & crate::say(rt, b"\n")
 }
 
 // Says how a command is called, and, where that is asked, what it does.
-pub fn describe(words: Words, usage: &[u8], text: &[u8]) -> Status {
+pub fn describe(rt: HostRuntime, words: Words, usage: &[u8], text: &[u8]) -> Status {
     let task = words.task;
     match task {
         Task::Run => Status::Failed,
-        Task::Usage => crate::written(say_usage(usage)),
-        Task::Help => crate::written(say_usage(usage) & crate::say(text)),
+        Task::Usage => crate::written(rt, say_usage(rt, usage)),
+        Task::Help => crate::written(rt, say_usage(rt, usage) & crate::say(rt, text)),
     }
 }
 
 // Says that a command was called wrongly, and how it is called.
-pub fn misuse(usage: &[u8]) -> Status {
-    complain(b"usage: ti ");
-    complain(usage);
-    complain(b"\n");
+pub fn misuse(rt: HostRuntime, usage: &[u8]) -> Status {
+    complain(rt, b"usage: ti ");
+    complain(rt, usage);
+    complain(rt, b"\n");
     Status::Failed
 }

@@ -1,7 +1,9 @@
 // Files read whole.
 ghost use Rattle.std.specs.Prelude.{◌≡◌, ◌≤◌, length};
 
-use libc::STDIN_FILENO;
+use crate::path_text;
+use std::fs::File;
+use std::io::{Error, Read};
 use ti_common::fail;
 
 // Bytes that were put at a slice's start: how many, and whether they are all there are or the slice is full; else a
@@ -12,28 +14,31 @@ pub struct Got {
     pub length: usize,
 }
 
-// Reads a descriptor to its end, or until the slice is full.
-pub fn read_all(fd: i32, bytes: &mut [u8]) -> Got
+// Reads to the end, or until the slice is full; says what fails, by the name of what is read.
+pub fn read_all<S: Read>(rt: HostRuntime, from: &mut S, name: &[u8], bytes: &mut [u8]) -> Got
     ensures { (length bytes.new ≡ length bytes.old)
         × (result.length ≤ length bytes.old) }
 {
     let mut n = 0;
     while n < bytes.len() {
-        let got = libc::read(fd, &mut bytes[n..]);
-        if got < 0 {
-            return Got {
-                ok: false,
-                length: n,
-            };
+        match from.read(&mut bytes[n..]) {
+            Ok(0) => {
+                return Got {
+                    ok: true,
+                    length: n,
+                };
+            }
+            Ok(more) => {
+                n += more;
+            }
+            Err(why) => {
+                fail(rt, name, why);
+                return Got {
+                    ok: false,
+                    length: n,
+                };
+            }
         }
-        let more = io::count(got, &bytes[n..]);
-        if more == 0 {
-            return Got {
-                ok: true,
-                length: n,
-            };
-        }
-        n += more;
     }
     Got {
         ok: true,
@@ -50,45 +55,43 @@ pub fn is_standard(path: &[u8]) -> bool {
 }
 
 // Reads standard input.
-pub fn read_standard(bytes: &mut [u8]) -> Got
+pub fn read_standard(rt: HostRuntime, bytes: &mut [u8]) -> Got
     ensures { (length bytes.new ≡ length bytes.old)
         × (result.length ≤ length bytes.old) }
 {
-    let got = read_all(STDIN_FILENO, bytes);
-    if !got.ok {
-        fail(b"standard input");
-    }
-    got
+    let mut from = rt.stdin();
+    read_all(rt, &mut from, b"standard input", bytes)
+}
+
+// Opens the file that the path names.
+fn open(rt: HostRuntime, path: &[u8]) -> Result<File, Error> {
+    File::open(&rt, path_text(path)?)
 }
 
 // Reads the file that the path names.
-fn read_named(path: &[u8], bytes: &mut [u8]) -> Got
+fn read_named(rt: HostRuntime, path: &[u8], bytes: &mut [u8]) -> Got
     ensures { (length bytes.new ≡ length bytes.old)
         × (result.length ≤ length bytes.old) }
 {
-    let fd = os::open_read(path);
-    if fd < 0 {
-        fail(path);
-        return Got {
-            ok: false,
-            length: 0,
-        };
+    match open(rt, path) {
+        Ok(mut file) => read_all(rt, &mut file, path, bytes),
+        Err(why) => {
+            fail(rt, path, why);
+            Got {
+                ok: false,
+                length: 0,
+            }
+        }
     }
-    let got = read_all(fd, bytes);
-    if !got.ok {
-        fail(path);
-    }
-    libc::close(fd);
-    got
 }
 
 // Reads the file that the path names, or standard input.
-pub fn read_file(path: &[u8], bytes: &mut [u8]) -> Got
+pub fn read_file(rt: HostRuntime, path: &[u8], bytes: &mut [u8]) -> Got
     ensures { (length bytes.new ≡ length bytes.old)
         × (result.length ≤ length bytes.old) }
 {
     if is_standard(path) {
-        return read_standard(bytes);
+        return read_standard(rt, bytes);
     }
-    read_named(path, bytes)
+    read_named(rt, path, bytes)
 }

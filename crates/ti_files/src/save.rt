@@ -2,7 +2,11 @@
 ghost use Rattle.std.specs.Prelude.{◌≤◌, length};
 ghost use Rattle.beside.specs.Beside.{path_room};
 
+use crate::path_text;
 use beside::name_beside;
+use std::fs;
+use std::fs::{File, OpenOptions};
+use std::io::{Error, Write};
 use ti_common::{Status, complain, fail};
 
 // The most bytes of a path.
@@ -11,85 +15,99 @@ const PATH_MOST: usize = 4096;
 // The most bytes of a path, of `.ti-` and of a number.
 const NAME_ROOM: usize = 4120;
 
+// Creates a file that is not there yet.
+fn create(rt: HostRuntime, name: &str) -> Result<File, Error> {
+    OpenOptions::new()
+        .write(true)
+        .create_new(true)
+        .open(&rt, name)
+}
+
 // Writes all of a file, to the disk, and closes it.
-fn write_whole(fd: i32, file: &[u8]) -> bool {
-    let is_written = io::write_all(fd, file) && libc::fsync(fd) == 0;
-    let is_closed = libc::close(fd) == 0;
-    is_written && is_closed
+fn write_whole(mut to: File, file: &[u8]) -> Result<(), Error> {
+    to.write_all(file)?;
+    to.sync_all()
+}
+
+// Writes the file under a name of its own and renames it, or leaves an old file as it was.
+fn put_renamed(rt: HostRuntime, path: &str, name: &str, file: &[u8]) -> Result<(), Error> {
+    let to = create(rt, name)?;
+    let written = write_whole(to, file).and_then(|_| fs::rename(&rt, name, path));
+    if written.is_err() {
+        let _ = fs::remove_file(&rt, name);
+    }
+    written
+}
+
+// The same where the names are bytes.
+fn put_beside(rt: HostRuntime, path: &[u8], name: &[u8], file: &[u8]) -> Result<(), Error> {
+    put_renamed(rt, path_text(path)?, path_text(name)?, file)
 }
 
 // Writes the file under a name of its own and renames it, or says what failed and leaves an old file as it was.
-fn replace(path: &[u8], name: &[u8], file: &[u8]) -> bool {
-    let fd = os::create(name);
-    if fd < 0 {
-        fail(path);
-        return false;
+fn replace(rt: HostRuntime, path: &[u8], name: &[u8], file: &[u8]) -> bool {
+    match put_beside(rt, path, name, file) {
+        Ok(()) => true,
+        Err(why) => {
+            fail(rt, path, why);
+            false
+        }
     }
-    if !write_whole(fd, file) {
-        fail(path);
-        os::unlink(name);
-        return false;
-    }
-    if os::rename(name, path) != 0 {
-        fail(path);
-        os::unlink(name);
-        return false;
-    }
-    true
 }
 
 // The process's number.
-fn process() -> u64 {
-    let number = libc::getpid();
-    if number < 0 { 0 } else { number as u64 }
+fn process(rt: HostRuntime) -> u64 {
+    std::process::id(rt.process()) as u64
 }
 
 // Saves the file under the path, whole or not at all.
-fn save(path: &[u8], file: &[u8]) -> bool
+fn save(rt: HostRuntime, path: &[u8], file: &[u8]) -> bool
     requires { length path.now ≤ path_room }
 {
     let mut digits = [0u8; 20];
-    let k = io::decimal(process(), &mut digits);
+    let k = io::decimal(process(rt), &mut digits);
     let mut name = [0u8; NAME_ROOM];
     let n = name_beside(path, &digits[..k], &mut name);
-    replace(path, &name[..n], file)
+    replace(rt, path, &name[..n], file)
 }
 
-// Whether a file can stand under the path: not where something stands that can be opened and can't be written to the
-// disk, as a device or a pipe.
-fn is_regular(path: &[u8]) -> bool {
-    let fd = os::open_update(path);
-    if fd < 0 {
-        return true;
+// Whether a file can stand under the path: nothing is there, or a regular file.
+fn is_regular(rt: HostRuntime, path: &[u8]) -> bool {
+    match path_text(path) {
+        Ok(text) => match fs::metadata(&rt, text) {
+            Ok(found) => found.is_file(),
+            Err(_) => true,
+        },
+        Err(_) => true,
     }
-    let is_regular = libc::fsync(fd) == 0;
-    libc::close(fd);
-    is_regular
 }
 
 // Whether an output file can stand under the path; if not, says why.
-pub fn is_output(path: &[u8]) -> bool {
+pub fn is_output(rt: HostRuntime, path: &[u8]) -> bool {
     if crate::input::is_standard(path) {
-        complain(b"ti: -: the output is a file (one of this name is ./-)\n");
+        complain(
+            rt,
+            b"ti: -: the output is a file (one of this name is ./-)\n",
+        );
         return false;
     }
-    if !is_regular(path) {
-        complain(b"ti: ");
-        complain(path);
-        complain(b": not a regular file\n");
+    if !is_regular(rt, path) {
+        complain(rt, b"ti: ");
+        complain(rt, path);
+        complain(rt, b": not a regular file\n");
         return false;
     }
     true
 }
 
 // Saves the file under the path and says what was done, with the file's size; or says what failed.
-pub fn save_saying(path: &[u8], file: &[u8], what: &[u8]) -> Status {
+pub fn save_saying(rt: HostRuntime, path: &[u8], file: &[u8], what: &[u8]) -> Status {
     if PATH_MOST < path.len() {
-        complain(b"ti: the path is too long\n");
+        complain(rt, b"ti: the path is too long\n");
         return Status::Failed;
     }
-    if save(path, file) {
-        return ti_common::say_size(what, file);
+    if save(rt, path, file) {
+        return ti_common::say_size(rt, what, file);
     }
     Status::Failed
 }

@@ -1,7 +1,10 @@
 // The options of ti's commands: `-e EDITION` of every command, one of a command's own, and `--`, which ends them.
 // Proved: the edition given is none that is too large; the one before any -e is the second (`default_edition`); the
 // place behind an option is as many words on as specs/Steps.antt says; each function is safe and ends. What a word is,
-// `option_words` says. Not stated, and tested: which words stand there. Assumed: what libc and os say of C.
+// `option_words` says. Not stated, and tested: which words stand there. Assumed: what std says of
+// the system.
+#![tactic(auto)]
+
 ghost use Rattle.std.specs.Prelude.{◌≡◌, true, ◌+◌, ◌<◌};
 ghost use Rattle.edition.specs.Edition.{ok_edition};
 ghost use Rattle.names.specs.Names.{second_edition};
@@ -67,60 +70,60 @@ fn default_edition() -> Edition
 }
 
 // Says that an option is unknown.
-fn wrong_option(word: &[u8]) -> Step {
-    complain(b"ti: unknown option ");
-    complain_quoted(word);
-    complain(b"\n");
+fn wrong_option(rt: HostRuntime, word: &[u8]) -> Step {
+    complain(rt, b"ti: unknown option ");
+    complain_quoted(rt, word);
+    complain(rt, b"\n");
     Step::Wrong
 }
 
 // Says that no edition stands behind -e.
-fn wrong_edition(word: &[u8]) -> Step {
-    complain(b"ti: ");
-    complain_quoted(word);
-    complain(b" names no edition: 1, 2 or B,N,S\n");
+fn wrong_edition(rt: HostRuntime, word: &[u8]) -> Step {
+    complain(rt, b"ti: ");
+    complain_quoted(rt, word);
+    complain(rt, b" names no edition: 1, 2 or B,N,S\n");
     Step::Wrong
 }
 
 // The edition that a word names.
-fn edition_of(word: &[u8]) -> Step {
+fn edition_of(rt: HostRuntime, word: &[u8]) -> Step {
     match edition_words::parse(word) {
         EditionWord::Given(edition) => Step::Edition(edition),
-        EditionWord::Wrong => wrong_edition(word),
+        EditionWord::Wrong => wrong_edition(rt, word),
     }
 }
 
 // The edition that the word at a place behind -e names.
-fn edition_at(place: usize) -> Step {
-    if os::arg_count() <= place {
-        complain(b"ti: no edition stands behind -e: 1, 2 or B,N,S\n");
+fn edition_at(rt: HostRuntime, place: usize) -> Step {
+    if ti_common::words::count_all(rt) <= place {
+        complain(rt, b"ti: no edition stands behind -e: 1, 2 or B,N,S\n");
         return Step::Wrong;
     }
     let mut word = io::buffer();
-    let n = os::arg(place, &mut word);
-    edition_of(&word[..n])
+    let n = ti_common::words::word_or_none(rt, place, &mut word);
+    edition_of(rt, &word[..n])
 }
 
 // The name that stands at a place behind -n.
-fn name_at(place: usize) -> Step {
-    if os::arg_count() <= place {
-        complain(b"ti: no name stands behind -n\n");
+fn name_at(rt: HostRuntime, place: usize) -> Step {
+    if ti_common::words::count_all(rt) <= place {
+        complain(rt, b"ti: no name stands behind -n\n");
         return Step::Wrong;
     }
     Step::Name
 }
 
 // What stands at a place among all words; says what is wrong.
-fn step_at(place: u16, own: OwnOption) -> Step {
+fn step_at(rt: HostRuntime, place: u16, own: OwnOption) -> Step {
     let mut word = io::buffer();
-    let n = os::arg(place as usize, &mut word);
+    let n = ti_common::words::word_or_none(rt, place as usize, &mut word);
     match option_words::kind_of(&word[..n], own) {
         WordKind::Operand => Step::Operand,
         WordKind::End => Step::End,
         WordKind::Flag => Step::Flag,
-        WordKind::Edition => edition_at(place as usize + 1),
-        WordKind::Name => name_at(place as usize + 1),
-        WordKind::Unknown => wrong_option(&word[..n]),
+        WordKind::Edition => edition_at(rt, place as usize + 1),
+        WordKind::Name => name_at(rt, place as usize + 1),
+        WordKind::Unknown => wrong_option(rt, &word[..n]),
     }
 }
 
@@ -181,7 +184,7 @@ fn taken(words: Words, first: u16, is_set: bool, edition: Edition, wanted: Wante
 }
 
 // Takes the options that stand before the operands; of several -e the last counts, and of several -n.
-pub fn take(words: Words, own: OwnOption) -> Options
+pub fn take(rt: HostRuntime, words: Words, own: OwnOption) -> Options
     ensures { ok_edition result.edition ≡ true }
 {
     let mut first = words.first;
@@ -189,7 +192,7 @@ pub fn take(words: Words, own: OwnOption) -> Options
     let mut edition = default_edition();
     let mut wanted = Wanted::First;
     while first < OPTIONS_END {
-        let step = step_at(first, own);
+        let step = step_at(rt, first, own);
         let next = behind(step, first);
         match step {
             Step::Operand => {

@@ -3,6 +3,8 @@
 //
 // A text has up to 3,276 uses. So that each is resolved quickly, a table has for each hash of a name the first
 // description with such a name, and the search for a use's name starts there.
+#![tactic(auto)]
+
 ghost use Rattle.std.specs.Prelude.{◌≡◌, List, ◌≤◌, ◌<◌, length};
 ghost use Rattle.edition.specs.declared.Edition.{Edition};
 ghost use Rattle.names.specs.Lookup.{same_bytes};

@@ -6,6 +6,8 @@
 // name that no description has. The open descriptions, those being worked on, are the first `depth` of `stack`, each
 // with its next use in `next`. A finished description whose height the chain can't take is entered once more: the
 // ninth use stands below it.
+#![tactic(auto)]
+
 ghost use Rattle.std.specs.Prelude.{◌≡◌, List, ℕ, ◌-◌, ◌<◌, ◌≤◌, length, get_or};
 ghost use Rattle.uses.specs.Walk.{is_in};
 ghost use Rattle.uses.specs.Targets.{no_target};

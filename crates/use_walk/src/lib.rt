@@ -4,6 +4,8 @@
 //
 // The uses of description d stand from `starts[d]` up to `starts[d + 1]`; a target of NO_TARGET is a name that
 // no description has.
+#![tactic(auto)]
+
 ghost use Rattle.std.specs.Prelude.{[], ◌<◌, length, get_or};
 ghost use Rattle.entry.specs.Handed.{handed};
 ghost use Rattle.text.specs.Building.{description_at};

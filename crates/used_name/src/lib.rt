@@ -1,5 +1,7 @@
 // The name in a use: the content of its string, as far as it can be an alias (document 02, 2026-02). Proved: `read`
 // reads what read_at of text/specs gives. Assumed: nothing.
+#![tactic(auto)]
+
 ghost use Rattle.std.specs.Prelude.{◌≤◌, length};
 ghost use Rattle.text.specs.Heading.{alias_most};
 ghost use Rattle.used_name.specs.Reads.{ReadsName};

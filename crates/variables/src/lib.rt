@@ -1,5 +1,7 @@
 // The variables a to z and A to Z (document 01: Expansion). Proved: each function is its definition of
 // expansion/specs. Assumed: nothing.
+#![tactic(auto)]
+
 ghost use Rattle.std.specs.Prelude.{◌≡◌, List, ◌-◌, ℤ, pos, get_or, set};
 ghost use Rattle.expansion.specs.Values.{Value};
 ghost use Rattle.expansion.specs.Machine.{loaded, stored};

@@ -1,5 +1,7 @@
 // The states that the fields of a description give (document 01: Source text). Proved: `walk` keeps what `sayings_from`
 // of text/specs gives. Assumed: nothing.
+#![tactic(auto)]
+
 ghost use Rattle.std.specs.Prelude.{[]};
 ghost use Rattle.entry.specs.Handed.{handed};
 ghost use Rattle.compile_laws.specs.Held.{Holds};

@@ -1,4 +1,6 @@
 // Shorts, low byte first: read from a slice, stored into one. The first NUL of a slice.
+#![tactic(auto)]
+
 ghost use Rattle.std.specs.Prelude.{◌≡◌, ◌+◌, ◌<◌, ◌≤◌, length};
 ghost use Rattle.base.specs.Overwrite.{put_at};
 ghost use Rattle.word.specs.Word.{word, bytes};

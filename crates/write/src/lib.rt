@@ -1,5 +1,7 @@
 // Writes compiled entries (document 01: Compiled entry, order of writing). Proved: `write` answers every edition and
 // every slice as `writing` of entry/specs says, and a refusal leaves the buffer as it was. Assumed: nothing.
+#![tactic(auto)]
+
 ghost use Rattle.std.specs.Prelude.{length};
 ghost use Rattle.base.specs.Answer.{Leaves};
 ghost use Rattle.entry.specs.Writing.{writing};

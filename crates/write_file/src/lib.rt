@@ -1,5 +1,7 @@
 // The whole file put into a buffer, once it is known to fit (document 01: Compiled entry). Proved: `write_sure` puts
 // `encode` of entry/specs. Assumed: nothing.
+#![tactic(auto)]
+
 ghost use Rattle.std.specs.Prelude.{◌≡◌, [], ◌++◌, ◌+◌, ◌<◌, ◌≤◌, ◌^◌, length};
 ghost use Rattle.base.specs.Overwrite.{put_at};
 ghost use Rattle.entry.specs.Layout.{size_of, numbers_at, table_at};

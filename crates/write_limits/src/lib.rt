@@ -1,5 +1,7 @@
 // Judges what is handed to the writer (document 01: Compiled entry). Each loop gives the first place that fails, or
 // the number of places. Proved: each function is its definition of entry/specs. Assumed: nothing.
+#![tactic(auto)]
+
 ghost use Rattle.std.specs.Prelude.{◌≡◌, true, ◌&&◌, ◌||◌, not, [], ◌+◌, ◌≤◌, min, eqb, leb, length};
 ghost use Rattle.base.specs.Scan.{scan, every};
 ghost use Rattle.word.specs.Nul.{nul_from};

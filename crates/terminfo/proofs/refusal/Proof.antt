@@ -22,5 +22,5 @@ unfolding code.routine tables_of
 refusal-spec 𝓤 𝓛 𝓜 𝓡 =
     entered 𝓤 𝓛.H (triple_of 𝓛 own.signature (own.spec 𝓛 𝓜.mem 𝓡.run))
     (tables 𝓤 𝓛.H 𝓜 𝓡 code.env).C (tables 𝓤 𝓛.H 𝓜 𝓡 code.env).Λ #called code.function (code.unfolded 𝓤 𝓛.H 𝓜 𝓡)
-    (law.call-meets S.the_row S'.mir #callee (λ f n r. says_refusal r ≡ entry_refusal f n) (λ r u is. ((EL.lawful S.the_type S'.the_laws 𝓛 tt).typed r _ is).0) 𝓛 (tables_of 𝓤 𝓛.H 𝓜 (tables 𝓤 𝓛.H 𝓜 𝓡 code.env))
+    (law.call_meets S.the_row S'.mir #callee (λ f n r. says_refusal r ≡ entry_refusal f n) (λ r u is. ((EL.lawful S.the_type S'.the_laws 𝓛 tt).typed r _ is).0) 𝓛 (tables_of 𝓤 𝓛.H 𝓜 (tables 𝓤 𝓛.H 𝓜 𝓡 code.env))
     (cited 𝓤 𝓛.H _ 𝓜 𝓡 code.env #callee step-def.routine code.calls-entry-numbers::refusal-in (step_thm.met 𝓤 𝓛 𝓜 𝓡)))

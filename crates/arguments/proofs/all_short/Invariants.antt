@@ -1,0 +1,17 @@
+-- `arguments::all_short` meets its contract: an argument a turn.
+-- Assumes nothing.
+use mathlib.Core.Path.{◌≡◌, sym, ◌∙◌}
+use Prim.Native.Nat.{◌-◌, ◌≤◌}
+use lib.ListN.{length}
+use native.Mathlib.Omega.{arith}
+use borrow.Author.Rules.{rules}
+use borrow.Author.Tests.{not-true, not-false}
+use Rattle.expansion.specs.Arguments.{is_short}
+use Rattle.arguments.proofs.Laws.{Passed, passed_start, passed_next, passed_not, passed_all}
+use Rattle.arguments.proofs.all_short.Given as goal
+
+abbrev pub invariant-loop-i : goal.invariant-loop-i
+invariant-loop-i l = (l.i ≤ 9) × (length l.arguments ≡ 9) × Passed is_short l.arguments l.i
+
+abbrev pub decreases-loop-i : goal.decreases-loop-i
+decreases-loop-i l = 9 - l.i

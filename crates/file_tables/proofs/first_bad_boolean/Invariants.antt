@@ -1,0 +1,21 @@
+-- `file_tables::first_bad_boolean` meets its contract. The invariant: the first bad byte is the first from i on.
+use Prim.Native.Nat.{ℕ, ◌+◌, ◌-◌, ◌≤◌}
+use mathlib.Core.Bool.{Bool}
+use mathlib.Core.List.{List}
+use mathlib.Core.Path.{◌≡◌, sym, ◌∙◌}
+use lib.ListN.{get_or}
+use borrow.Author.Tests.{not-true, not-false}
+use borrow.Author.Rules.{rules}
+use Rattle.base.specs.Scan.{scan}
+use Rattle.base.proofs.ScanLaws.{scan_step, scan_hit, scan_end, scan_start}
+use Rattle.entry.specs.State.{ok_boolean}
+use Rattle.file_tables.proofs.first_bad_boolean.Given as goal
+
+abbrev okAt : List ℕ → ℕ → ℕ → Bool
+okAt f at j = ok_boolean (get_or f (at + j) 0)
+
+abbrev pub invariant-loop-i : goal.invariant-loop-i
+invariant-loop-i l = (l.i ≤ l.n) × (scan (okAt l.file l.at) 0 l.n ≡ scan (okAt l.file l.at) l.i (l.n - l.i))
+
+abbrev pub decreases-loop-i : goal.decreases-loop-i
+decreases-loop-i l = l.n - l.i

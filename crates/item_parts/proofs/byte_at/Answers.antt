@@ -1,0 +1,9 @@
+-- `item_parts::byte_at` meets its contract: a list reads as its default past its end.
+-- Assumes nothing.
+use lib.ListN.{get_or-eq_default}
+use mathlib.Core.Path.{sym}
+use borrow.Author.Rules.{rules}
+use Rattle.item_parts.proofs.byte_at.Goals as goal
+
+pub returns-else-i-s : goal.returns-else-i-s
+returns-else-i-s c = sym (get_or-eq_default c.args.s.now 0 c.if-i-s.false)

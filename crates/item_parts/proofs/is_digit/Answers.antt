@@ -1,0 +1,10 @@
+-- `item_parts::is_digit` meets its contract: the tests are the definition's.
+-- Assumes nothing.
+use borrow.Author.Tests.{le-leb, lt-leb}
+use Rattle.item_parts.proofs.is_digit.Goals as goal
+
+pub returns-then-c-ge48 : goal.returns-then-c-ge48
+returns-then-c-ge48 c = rw (le-leb 48 c.args.c c.if-c-ge48.true)
+
+pub returns-else-c-ge48 : goal.returns-else-c-ge48
+returns-else-c-ge48 c = rw (lt-leb 48 c.args.c c.if-c-ge48.false)

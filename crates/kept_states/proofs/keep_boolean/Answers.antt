@@ -1,0 +1,12 @@
+-- `kept_states::keep_boolean` meets its contract: the test decides whether a field stands already.
+-- Assumes nothing.
+use mathlib.Core.Path.{sym}
+use borrow.Author.Rules.{rules}
+use Rattle.compile_laws.proofs.KeepLaws.{test_first, test_later}
+use Rattle.kept_states.proofs.keep_boolean.Goals as goal
+
+pub returns-then-is_new : goal.returns-then-is_new
+returns-then-is_new c = sym (test_first _ _ _ _ _ c.is_new.ensures c.if-is_new.true)
+
+pub returns-else-is_new : goal.returns-else-is_new
+returns-else-is_new c = sym (test_later _ _ _ _ _ c.is_new.ensures c.if-is_new.false)

@@ -1,0 +1,18 @@
+-- `merge_states::fill_strings` meets its contract. The loop's invariant: the places passed are filled, and the sum is the length of
+-- their string table, which is no longer than a file may be.
+use mathlib.Core.Path.{◌≡◌, refl}
+use Prim.Native.Nat.{◌+◌, ◌≤◌, ◌-◌}
+use native.Mathlib.Omega.{arith}
+use lib.ListN.{length, length-set}
+use Rattle.base.specs.Tabulate.{tabulate}
+use Rattle.entry.specs.Limits.{file_most}
+use Rattle.entry.specs.Writing.{string_table}
+use Rattle.merge_states.specs.Filled.{StringsFilled}
+use Rattle.merge_states.proofs.Laws.{table_of, table_turn, string_most_lem, table_whole, table_large, strings_turn}
+use Rattle.merge_states.proofs.fill_strings.Given as goal
+
+abbrev pub invariant-loop-i : goal.invariant-loop-i
+invariant-loop-i l = (l.i ≤ l.edition.strings) × (length l.kinds ≡ length l.initial.kinds) × (length l.starts ≡ length l.initial.starts) × (length l.lengths ≡ length l.initial.lengths) × StringsFilled l.i l.first l.second l.kinds l.starts l.lengths × (l.table ≡ table_of l.first l.second l.i) × (l.table ≤ file_most)
+
+abbrev pub decreases-loop-i : goal.decreases-loop-i
+decreases-loop-i l = l.edition.strings - l.i

@@ -1,0 +1,17 @@
+-- `operators::both` meets its contract, by its tests.
+-- Assumes nothing.
+use Rattle.signed.proofs.Laws.{zero_yes, zero_no}
+use Rattle.expansion.specs.Machine.{applied}
+use Rattle.operators.proofs.both.Goals as goal
+
+pub returns-then-a-eq0 : goal.returns-then-a-eq0
+unfolding applied
+returns-then-a-eq0 c = rw (zero_yes _ c.ranges.a c.if-a-eq0.true)
+
+pub returns-then-b-eq0 : goal.returns-then-b-eq0
+unfolding applied
+returns-then-b-eq0 c = rw (zero_no c.args.a c.if-a-eq0.false, zero_yes _ c.ranges.b c.if-b-eq0.true)
+
+pub returns : goal.returns
+unfolding applied
+returns c = rw (zero_no c.args.a c.if-a-eq0.false, zero_no c.args.b c.if-b-eq0.false)

@@ -1,0 +1,7 @@
+-- `print::is_plain` meets its contract.
+-- Assumes nothing.
+use borrow.Author.Rules.{rules}
+use Rattle.print.proofs.is_plain.Goals as goal
+
+pub returns : goal.returns
+returns c = rw c.if-minus.false

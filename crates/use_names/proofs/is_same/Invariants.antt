@@ -1,0 +1,16 @@
+-- `use_names::is_same` meets its contract. The loop's invariant: the bytes before i are the same.
+-- Assumes nothing.
+use mathlib.Core.Path.{◌≡◌, ap}
+use mathlib.Core.List.{List}
+use Prim.Native.Nat.{ℕ, ◌-◌, ◌≤◌, ◌<◌}
+use native.Mathlib.Omega.{arith}
+use lib.ListN.{length, get_or}
+use borrow.Author.Count.{below_none, below_more}
+use Rattle.use_names.proofs.NameLaws.{same_all, differs}
+use Rattle.use_names.proofs.is_same.Given as goal
+
+abbrev pub invariant-loop-i : goal.invariant-loop-i
+invariant-loop-i l = (l.i ≤ length l.a) × ((j : ℕ) → j < l.i → get_or l.a j 0 ≡ get_or l.b j 0)
+
+abbrev pub decreases-loop-i : goal.decreases-loop-i
+decreases-loop-i l = length l.a - l.i

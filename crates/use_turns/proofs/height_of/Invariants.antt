@@ -1,0 +1,24 @@
+-- `use_turns::height_of` meets its contract: the height is that of the uses read, with those that are left.
+-- Assumes nothing.
+use mathlib.Core.Path.{◌≡◌, sym, ap, ◌∙◌}
+use mathlib.Core.List.{List}
+use mathlib.Core.Logic.{⊎_elim}
+use Prim.Native.Nat.{ℕ, max, suc, ◌≤◌, ◌-◌}
+use native.Mathlib.Omega.{arith}
+use lib.ListN.{get_or}
+use borrow.Author.Rules.{rules}
+use Rattle.uses.specs.Heights.{height_of, low}
+use Rattle.use_turns.specs.Frames.{uses_from, heights_of}
+use Rattle.use_turns.proofs.ReadLaws.{joined, height_start, height_missing, height_unfinished}
+use Rattle.use_turns.proofs.ReadLaws.{height_more, height_end}
+use Rattle.use_turns.proofs.height_of.Given as goal
+
+abbrev pub invariant-loop-i : goal.invariant-loop-i
+invariant-loop-i l = (l.from ≤ l.i)
+    × ((l.i ≤ l.end)
+    × ((l.h ≤ 255)
+    × ((places : List ℕ) → height_of (heights_of l.heights) (uses_from places l.targets l.from (l.end - l.from))
+    ≡ joined l.h (height_of (heights_of l.heights) (uses_from places l.targets l.i (l.end - l.i))))))
+
+abbrev pub decreases-loop-i : goal.decreases-loop-i
+decreases-loop-i l = l.end - l.i

@@ -1,0 +1,8 @@
+-- `use_walk::put_own` meets its contract.
+-- Assumes nothing.
+use borrow.Author.Rules.{rules}
+use Rattle.use_walk.proofs.WalkLaws.{put_own_lem}
+use Rattle.use_walk.proofs.put_own.Goals as goal
+
+pub returns : goal.returns
+returns c = put_own_lem _ _ _ _ _ _ c.requires.1.0 c.walk.ensures
