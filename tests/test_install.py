@@ -63,7 +63,8 @@ esac
 """
 PROGRAM = """#!/bin/sh
 echo "called by $*"
-printf 0 >&3
+{ printf 0 >&3; } 2>/dev/null
+exit 0
 """
 
 folder = Path()

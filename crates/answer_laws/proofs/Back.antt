@@ -6,7 +6,7 @@ use mathlib.Core.List.{[], ◌∷◌}
 use Prim.Native.Nat.{ℕ}
 use lib.Dec.{eqb}
 use lib.ListN.{get_or}
-use Rattle.base.specs.If.{if◌then◌else◌}
+use Rattle.base.specs.If.{when◌then◌else◌}
 use Rattle.base.specs.Answer.{Answer, refused, gives}
 use Rattle.entry.specs.declared.Sizes.{Sizes}
 use Rattle.entry.specs.declared.Part.{Part}
@@ -66,8 +66,8 @@ plain (gives x) = gives x
 
 abbrev pub file : ℕ → ℕ → FileRefusal
 file n at =
-    if eqb n 1 then R.Length else if eqb n 2 then R.Magic else if eqb n 3 then R.Counts else if eqb n 4 then R.Names at
-    else if eqb n 5 then R.Boolean at else if eqb n 6 then R.Number at else R.Slot at
+    when eqb n 1 then R.Length else when eqb n 2 then R.Magic else when eqb n 3 then R.Counts else when eqb n 4 then R.Names at
+    else when eqb n 5 then R.Boolean at else when eqb n 6 then R.Number at else R.Slot at
 
 pub file_back : (r : FileRefusal) → file (file_number r) (file_position r) ≡ r
 file_back R.Length = refl
@@ -80,8 +80,8 @@ file_back (R.Slot at) = refl
 
 abbrev pub text : ℕ → TextRefusal
 text n =
-    if eqb n 10 then T.Malformed else if eqb n 11 then T.Unknown else if eqb n 13 then T.Limit
-    else if eqb n 18 then T.NotFound else if eqb n 19 then T.Circular else T.NinthUse
+    when eqb n 10 then T.Malformed else when eqb n 11 then T.Unknown else when eqb n 13 then T.Limit
+    else when eqb n 18 then T.NotFound else when eqb n 19 then T.Circular else T.NinthUse
 
 pub text_back : (r : TextRefusal) → text (text_number r) ≡ r
 text_back T.Malformed = refl
@@ -161,7 +161,7 @@ beyond_back Y.Refused = refl
 
 abbrev pub refusal : Answer (Unit {0}) → EntryRefusal
 refusal (gives x) = Q.Accepted
-refusal (refused n v) = if eqb n 17 then Q.NotOpened else Q.File (file n (get_or v 0 0))
+refusal (refused n v) = when eqb n 17 then Q.NotOpened else Q.File (file n (get_or v 0 0))
 
 pub refusal_back : (r : EntryRefusal) → refusal (plain (says_refusal r)) ≡ r
 refusal_back Q.Accepted = refl
@@ -176,7 +176,7 @@ refusal_back Q.NotOpened = refl
 
 abbrev pub listed : Answer (Unit {0}) → Listed
 listed (gives x) = L.Done
-listed (refused n v) = if eqb n 8 then L.Room (get_or v 0 0) else L.Refused (file n (get_or v 0 0))
+listed (refused n v) = when eqb n 8 then L.Room (get_or v 0 0) else L.Refused (file n (get_or v 0 0))
 
 pub listed_back : (r : Listed) → listed (plain (says_listed r)) ≡ r
 listed_back L.Done = refl
@@ -192,8 +192,8 @@ listed_back (L.Room n) = refl
 abbrev pub written : Answer ℕ → Written
 written (gives n) = W.File n
 written (refused n v) =
-    if eqb n 3 then W.Counts else if eqb n 4 then W.Names else if eqb n 7 then W.Lent else if eqb n 13 then W.Limit
-    else if eqb n 9 then W.Size else W.Room (get_or v 0 0)
+    when eqb n 3 then W.Counts else when eqb n 4 then W.Names else when eqb n 7 then W.Lent else when eqb n 13 then W.Limit
+    else when eqb n 9 then W.Size else W.Room (get_or v 0 0)
 
 pub written_back : (r : Written) → written (plain (says_written r)) ≡ r
 written_back (W.File n) = refl
@@ -206,12 +206,12 @@ written_back (W.Room n) = refl
 
 -- which file, 0 for the edition, its refusal's number and position
 abbrev pub of_file : ℕ → ℕ → ℕ → Merged
-of_file k n at = if eqb k 0 then G.Edition else if eqb k 1 then G.First (file n at) else G.Second (file n at)
+of_file k n at = when eqb k 0 then G.Edition else when eqb k 1 then G.First (file n at) else G.Second (file n at)
 
 abbrev pub merged : Answer ℕ → Merged
 merged (gives n) = G.File n
 merged (refused n v) =
-    if eqb n 9 then G.Size else if eqb n 8 then G.Room (get_or v 0 0) else of_file (get_or v 0 0) n (get_or v 1 0)
+    when eqb n 9 then G.Size else when eqb n 8 then G.Room (get_or v 0 0) else of_file (get_or v 0 0) n (get_or v 1 0)
 
 pub merged_back : (r : Merged) → merged (says_merged r) ≡ r
 merged_back (G.File n) = refl
@@ -236,7 +236,7 @@ merged_back (G.Room n) = refl
 abbrev pub compiled : Answer ℕ → Compiled
 compiled (gives n) = C.File n
 compiled (refused n v) =
-    if eqb n 3 then C.Edition else if eqb n 1 then C.Length else if eqb n 9 then C.Size else if eqb n 8 then C.Room (get_or v 0 0)
+    when eqb n 3 then C.Edition else when eqb n 1 then C.Length else when eqb n 9 then C.Size else when eqb n 8 then C.Room (get_or v 0 0)
     else C.Refused (text n) (get_or v 0 0)
 
 pub compiled_back : (r : Compiled) → compiled (plain (says_compiled r)) ≡ r
@@ -278,9 +278,9 @@ found_back F.Unknown = refl
 abbrev pub expansion : Answer Counts → Expansion
 expansion (gives c) = E.Done c.length c.steps
 expansion (refused n v) =
-    if eqb n 17 then E.Place else if eqb n 1 then E.Length else if eqb n 14 then E.Malformed (get_or v 0 0)
-    else if eqb n 15 then E.Empty (get_or v 0 0) else if eqb n 16 then E.Full (get_or v 0 0)
-    else if eqb n 21 then E.Kind (get_or v 0 0) else E.Room (get_or v 0 0)
+    when eqb n 17 then E.Place else when eqb n 1 then E.Length else when eqb n 14 then E.Malformed (get_or v 0 0)
+    else when eqb n 15 then E.Empty (get_or v 0 0) else when eqb n 16 then E.Full (get_or v 0 0)
+    else when eqb n 21 then E.Kind (get_or v 0 0) else E.Room (get_or v 0 0)
 
 pub expansion_back : (r : Expansion) → expansion (plain (says_expansion r)) ≡ r
 expansion_back (E.Done n k) = refl

@@ -8,7 +8,7 @@ use native.Mathlib.Omega.{arith}
 use lib.Dec.{eqb, ltb, leb}
 use lib.ListN.{length, get_or}
 use borrow.Author.Tests.{ltb-true, le-leb, ne_eqb}
-use Rattle.base.specs.If.{if◌then◌else◌}
+use Rattle.base.specs.If.{when◌then◌else◌}
 use Rattle.base.proofs.IfLaws.{true_false}
 use Rattle.base.specs.Answer.{Answer, refused, gives, is_given, number_of}
 use Rattle.word.specs.Word.{word}
@@ -255,7 +255,7 @@ abbrev CapabilityOk : Capability → Type 0
 CapabilityOk c = PlaceWithin c.place
 
 abbrev kind_of : ℕ → Kind
-kind_of n = if eqb n 0 then K.Boolean else if eqb n 1 then K.Number else K.String
+kind_of n = when eqb n 0 then K.Boolean else when eqb n 1 then K.Number else K.String
 
 kind_back : (k : Kind) → kind_of (kind_code k) ≡ k
 kind_back K.Boolean = refl
@@ -369,8 +369,8 @@ unfolding naming numbered short
 names_below k p = by_known (knows (length (names_of k)) p) refl
   where
     by_known : (b : Bool) → knows (length (names_of k)) p ≡ b
-        → is_given (if b then gives (packed (get_or (names_of k) p.0 [])) else refused 17 []) ≡ true
-        → numbered (λ w. w) (if b then gives (packed (get_or (names_of k) p.0 [])) else refused 17 []) < 2 ^ 56
+        → is_given (when b then gives (packed (get_or (names_of k) p.0 [])) else refused 17 []) ≡ true
+        → numbered (λ w. w) (when b then gives (packed (get_or (names_of k) p.0 [])) else refused 17 []) < 2 ^ 56
     by_known true q e = ltb-true _ _ (all_at short (names_of k) p.0 [] (short_names k) (ltb-true _ _ q))
     by_known false q e = true_false (sym e)
 
@@ -404,7 +404,7 @@ expansion_tells =
 
 -- both as one, as the number has them
 abbrev folded : Answer ℕ → Answer ℕ
-folded (refused n v) = refused n ((if leb n 7 then get_or v 0 0 * 2 ^ 48 + get_or v 1 0 else get_or v 0 0) ∷ [])
+folded (refused n v) = refused n ((when leb n 7 then get_or v 0 0 * 2 ^ 48 + get_or v 1 0 else get_or v 0 0) ∷ [])
 folded (gives n) = gives n
 
 folded_number : (a : Answer ℕ) → merging_number (λ n. n) a ≡ numbered (λ n. n) (folded a)
@@ -436,7 +436,7 @@ merged_fits (G.Room n) h = omega arith
 abbrev unfolded : Answer ℕ → Merged
 unfolded (gives n) = G.File n
 unfolded (refused n v) =
-    if eqb n 9 then G.Size else if eqb n 8 then G.Room (get_or v 0 0)
+    when eqb n 9 then G.Size else when eqb n 8 then G.Room (get_or v 0 0)
     else back.of_file (get_or v 0 0 / 2 ^ 48) n (get_or v 0 0 % 2 ^ 48)
 
 file_unfolded : (k : ℕ) (r : FileRefusal) → FileWithin r

@@ -2,7 +2,8 @@
 -- Statements only: proofs/Distinct.antt has the proof. Assumes nothing.
 use Rattle.std.specs.Prelude.{◌≡◌}
 use Rattle.entry.specs.declared.FileRefusal.{FileRefusal}
-use Rattle.entry.specs.Says.{file_number, file_position, says_judged, says_opened, says_names, says_boolean, says_number}
+use Rattle.entry.specs.Says.{file_number, file_position, says_judged, says_opened, says_names, says_boolean}
+use Rattle.entry.specs.Says.{says_number}
 use Rattle.entry.specs.Says.{says_string, says_written, says_merged}
 use Rattle.names.specs.Naming.{says_name}
 use Rattle.names.specs.Finding.{says_found}

@@ -25,7 +25,8 @@ use Rattle.building_laws.specs.Values.{Bounded}
 use Rattle.expansion.specs.declared.Expansion.{Expansion}
 use Rattle.expansion.specs.Limits.{string_most, expansion_most}
 use Rattle.expansion.specs.Expanding.{says_expansion, Within}
-use Rattle.c_numbers.specs.Numbers.{numbered, merging_number, none, part_code, boolean_number, number_number, string_number}
+use Rattle.c_numbers.specs.Numbers.{numbered, merging_number, none, part_code, boolean_number, number_number}
+use Rattle.c_numbers.specs.Numbers.{string_number}
 use Rattle.c_numbers.specs.Numbers.{opening_array, counts_code, capability_number}
 use Rattle.c_numbers.specs.Numbers.{NamesWithin, StringWithin, WrittenWithin, FileWithin, MergedWithin, FoundWithin}
 use Rattle.answer_laws.specs.Distinct.{Injective}

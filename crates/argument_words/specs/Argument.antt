@@ -2,7 +2,7 @@
 -- any other word a text; `=WORD` is always the text WORD; digits whose value 32 bits with a sign don't hold are wrong.
 -- Assumes nothing.
 use Rattle.std.specs.Prelude.{List, ℕ, eqb, get_or, drop}
-use Rattle.base.specs.If.{if◌then◌else◌}
+use Rattle.base.specs.If.{when◌then◌else◌}
 use Rattle.number_words.specs.declared.Parsed.{Parsed}
 use Rattle.number_words.specs.declared.Parsed.TheVariants as P
 use Rattle.number_words.specs.Number.{is_numeral, value_of}
@@ -11,7 +11,7 @@ use Rattle.argument_words.specs.declared.ArgumentWord.TheVariants as A
 
 -- the word without its minus, which is 45
 unfoldable pub unsigned : List ℕ → List ℕ
-unsigned word = if eqb (get_or word 0 0) 45 then drop 1 word else word
+unsigned word = when eqb (get_or word 0 0) 45 then drop 1 word else word
 
 -- what digits are: a number, or wrong where 32 bits with a sign don't hold it
 abbrev pub number_of : Parsed → ArgumentWord
@@ -22,5 +22,5 @@ number_of P.Wrong = A.Wrong
 -- byte on: the empty one, `-`, `--`, `+5` and `1a` are
 unfoldable pub argument_of : List ℕ → ArgumentWord
 argument_of word =
-    if eqb (get_or word 0 0) 61 then A.Text 1
-    else if is_numeral (unsigned word) then number_of (value_of word) else A.Text 0
+    when eqb (get_or word 0 0) 61 then A.Text 1
+    else when is_numeral (unsigned word) then number_of (value_of word) else A.Text 0

@@ -5,7 +5,7 @@ use Rattle.std.proofs.Math.Path.{refl}
 use Rattle.std.proofs.Common.{sym, ap, subst, ◌∙◌, arith}
 use Rattle.std.proofs.Math.Bool.{true, false}
 use borrow.Author.Tests.{lt-ltb, le-ltb, le-leb}
-use Rattle.base.specs.If.{if◌then◌else◌}
+use Rattle.base.specs.If.{when◌then◌else◌}
 use Rattle.base.specs.Answer.{refused}
 use Rattle.base.proofs.IfLaws.{true_false}
 use Rattle.word.specs.Word.{word}
@@ -25,7 +25,7 @@ use Rattle.bad_slots.specs.declared.BadSlot.TheVariants as B
 
 -- the byte behind the booleans is the pad
 abbrev pub boolean_or_pad : Sizes → ℕ → BadSlot
-boolean_or_pad s i = if ltb i s.booleans then B.Slot K.Boolean (place i) else B.Pad
+boolean_or_pad s i = when ltb i s.booleans then B.Slot K.Boolean (place i) else B.Pad
 
 abbrev pub bad_slot_of : Sizes → FileRefusal → BadSlot
 bad_slot_of s R.Length = B.None
@@ -38,12 +38,13 @@ bad_slot_of s (R.Slot at) = B.Slot K.String (place ((at - strings_at s) / offset
 
 -- by the sizes in the file's header
 abbrev pub bad_slot_at : List ℕ → FileRefusal → BadSlot
-bad_slot_at f r = if ltb (length f) header_size then B.None else bad_slot_of (sizes_of f) r
+bad_slot_at f r = when ltb (length f) header_size then B.None else bad_slot_of (sizes_of f) r
 
 -- a slot of the file that holds an offset below the table size
 unfoldable pub holds_offset : List ℕ → ℕ → Bool
 holds_offset f at =
-    leb header_size (length f) && (leb (at + offset_width) (length f) && ltb (word offset_width f at) (sizes_of f).table)
+    leb header_size (length f)
+    && (leb (at + offset_width) (length f) && ltb (word offset_width f at) (sizes_of f).table)
 
 -- ---- of a file that reading refuses it is the first bad one of its table
 

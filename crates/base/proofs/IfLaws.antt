@@ -8,7 +8,7 @@ use native.Mathlib.Decide.{dec_le}
 use native.Mathlib.Omega.{arith}
 use lib.Dec.{eqb}
 use borrow.Author.Tests.{eq-eqb}
-use Rattle.base.specs.If.{if◌then◌else◌}
+use Rattle.base.specs.If.{when◌then◌else◌}
 
 -- no test is both
 pub true_false {ℓ} : {A : Type ℓ} → true ≡ false → A
@@ -51,17 +51,17 @@ not-true true e = sym e
 not-true false e = refl
 
 -- a choice whose test is known
-pub if_true : {A : Type 0} (t : Bool) (x y : A) → t ≡ true → x ≡ (if t then x else y)
+pub if_true : {A : Type 0} (t : Bool) (x y : A) → t ≡ true → x ≡ (when t then x else y)
 if_true true x y h = refl
 if_true false x y h = true_false (sym h)
 
-pub if_false : {A : Type 0} (t : Bool) (x y : A) → t ≡ false → y ≡ (if t then x else y)
+pub if_false : {A : Type 0} (t : Bool) (x y : A) → t ≡ false → y ≡ (when t then x else y)
 if_false true x y h = true_false h
 if_false false x y h = refl
 
 -- a choice has a property that both its values have
 pub if_both : {A : Type 0} (P : A → Type 0) (b : Bool) {x y : A} → (b ≡ true → P x) → (b ≡ false → P y)
-    → P (if b then x else y)
+    → P (when b then x else y)
 if_both P true hx hy = hx refl
 if_both P false hx hy = hy refl
 

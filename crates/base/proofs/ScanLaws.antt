@@ -7,7 +7,7 @@ use native.Mathlib.Nat.{not-suc-le-zero}
 use native.Mathlib.Omega.{arith}
 use native.Mathlib.Decide.{dec_le}
 use borrow.Author.Tests.{eqb-true, eq-eqb}
-use Rattle.base.specs.If.{if◌then◌else◌}
+use Rattle.base.specs.If.{when◌then◌else◌}
 use Rattle.base.specs.Scan.{scan, every}
 
 pub scan_pass : (ok : ℕ → Bool) (i k : ℕ) → ok i ≡ true → 0 < k → scan ok i k ≡ scan ok (i + 1) (k - 1)
@@ -34,7 +34,7 @@ unfolding scan
 scan_ge ok i zero = omega arith
 scan_ge ok i (suc k) = by_test (ok i) (scan_ge ok (suc i) k)
   where
-    by_test : (b : Bool) → suc i ≤ scan ok (suc i) k → i ≤ (if b then scan ok (suc i) k else i)
+    by_test : (b : Bool) → suc i ≤ scan ok (suc i) k → i ≤ (when b then scan ok (suc i) k else i)
     by_test true h = omega arith
     by_test false h = omega arith
 
@@ -43,7 +43,7 @@ unfolding scan
 scan_le ok i zero = omega arith
 scan_le ok i (suc k) = by_test (ok i) (scan_le ok (suc i) k)
   where
-    by_test : (b : Bool) → scan ok (suc i) k ≤ suc i + k → (if b then scan ok (suc i) k else i) ≤ i + suc k
+    by_test : (b : Bool) → scan ok (suc i) k ≤ suc i + k → (when b then scan ok (suc i) k else i) ≤ i + suc k
     by_test true h = omega arith
     by_test false h = omega arith
 
@@ -53,7 +53,7 @@ unfolding scan
 scan_before ok i zero j l h = absurd (let z : ⊥ = omega arith in z)
 scan_before ok i (suc k) j l h = by_test (ok i) refl h (λ m g. scan_before ok (suc i) k j m g)
   where
-    by_test : (b : Bool) → ok i ≡ b → j < (if b then scan ok (suc i) k else i) → (suc i ≤ j → j < scan ok (suc i) k → ok j ≡ true) → ok j ≡ true
+    by_test : (b : Bool) → ok i ≡ b → j < (when b then scan ok (suc i) k else i) → (suc i ≤ j → j < scan ok (suc i) k → ok j ≡ true) → ok j ≡ true
     by_test false e h' ih = absurd (let z : ⊥ = omega arith in z)
     by_test true e h' ih = elim (dec_le (suc i) j) [ yes m ↦ ih m h' | no m ↦ (let q : j ≡ i = omega arith in rw q e) ]
 
@@ -63,8 +63,8 @@ unfolding scan
 scan_fails ok i zero h = absurd (let z : ⊥ = omega arith in z)
 scan_fails ok i (suc k) h = by_test (ok i) refl h (λ g. scan_fails ok (suc i) k g)
   where
-    by_test : (b : Bool) → ok i ≡ b → (if b then scan ok (suc i) k else i) < i + suc k → (scan ok (suc i) k < suc i + k → ok (scan ok (suc i) k) ≡ false)
-        → ok (if b then scan ok (suc i) k else i) ≡ false
+    by_test : (b : Bool) → ok i ≡ b → (when b then scan ok (suc i) k else i) < i + suc k → (scan ok (suc i) k < suc i + k → ok (scan ok (suc i) k) ≡ false)
+        → ok (when b then scan ok (suc i) k else i) ≡ false
     by_test false e h' ih = e
     by_test true e h' ih = ih (omega arith)
 

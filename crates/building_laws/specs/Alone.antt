@@ -4,7 +4,7 @@ use Rattle.std.specs.Prelude.{◌≡◌, Bool, true, false, not, ℕ, ◌+◌, l
 use Rattle.std.proofs.Math.Path.{refl, ap}
 use Rattle.std.proofs.Common.{sym, ◌∙◌}
 use mathlib.Core.List.{List, [], ◌∷◌, map}
-use Rattle.base.specs.If.{if◌then◌else◌}
+use Rattle.base.specs.If.{when◌then◌else◌}
 use Rattle.base.specs.Answer.{Answer, refused, gives, map_answer, and_then}
 use Rattle.edition.specs.declared.Edition.{Edition}
 use Rattle.edition.specs.Edition.{ok_edition}
@@ -21,7 +21,8 @@ use Rattle.text.specs.Lines.{line_at}
 use Rattle.text.specs.Heading.{names_to, header_at}
 use Rattle.text.specs.Describing.{SayingAt, Fields, sayings_from, described, bare, described_from, Description}
 use Rattle.text.specs.Describing.{description, behind_fields, with_later, headed, descriptions_at, begun, describing}
-use Rattle.text.specs.Building.{has_name, having_from, having, UseAt, uses_in, found_as, uses_of, over_in, own_of, outcome}
+use Rattle.text.specs.Building.{has_name, having_from, having, UseAt, uses_in, found_as}
+use Rattle.text.specs.Building.{uses_of, over_in, own_of, outcome}
 use Rattle.text.specs.Building.{totals, Wanted, first, named, wanted_in, building, building_text}
 use Rattle.text.specs.Compiling.{fitted, compiling, fitting_named}
 use Rattle.building_laws.specs.Over.{described_names}
@@ -48,8 +49,8 @@ begun01 e t (Indented i) = refused 10 (0 ∷ [])
 -- total above 127 (13), 9, 8"
 unfoldable pub document01 : Edition → List ℕ → ℕ → Answer (List ℕ)
 document01 e t room =
-    if not (ok_edition e) then refused 3 []
-    else if not (leb (length t) text_most) then refused 1 []
+    when not (ok_edition e) then refused 3 []
+    else when not (leb (length t) text_most) then refused 1 []
     else fitted_named room (begun01 e t (line_at t 0))
 
 -- ---- such a text
@@ -75,7 +76,8 @@ module _ (e : Edition) (names : List ℕ) (ss : List SayingAt) where
   only_outcome : uses_in ss ≡ [] → outcome e only 0 ≡ gives (described (bare e names) ss)
   unfolding uses_of own_of with_uses
   only_outcome u =
-      ap (λ (us : List UseAt). with_uses (over_in e) (brought (over_in e) (own_of e only) (uses_of only) uses_most (0 ∷ []))
+      ap (λ (us : List UseAt).
+      with_uses (over_in e) (brought (over_in e) (own_of e only) (uses_of only) uses_most (0 ∷ []))
       (own_of e only 0) (map (λ (x : UseAt). found_as x.place (having x.name only)) us)) u
 
   only_wanted : (w : Wanted) → HasWanted w names → wanted_in only w ≡ gives 0
@@ -96,16 +98,16 @@ module _ (e : Edition) (names : List ℕ) (ss : List SayingAt) where
       x = described (bare e names) ss
 
       by_test : (b : Bool)
-          → fitted room (and_then {A = Unit {0}} (if b then gives tt else refused 13 (0 ∷ [])) (gives x))
-          ≡ (if not b then refused 13 (0 ∷ []) else fitting room (encode x))
+          → fitted room (and_then {A = Unit {0}} (when b then gives tt else refused 13 (0 ∷ [])) (gives x))
+          ≡ (when not b then refused 13 (0 ∷ []) else fitting room (encode x))
       by_test true = refl
       by_test false = refl
 
       by_total : fitted room (and_then (totals only) (gives x))
-          ≡ (if not (leb (length x.names) given_names_most) then refused 13 (0 ∷ []) else fitting room (encode x))
+          ≡ (when not (leb (length x.names) given_names_most) then refused 13 (0 ∷ []) else fitting room (encode x))
       by_total =
           by_test (leb (length names) given_names_most)
-          ∙ ap (λ (n : List ℕ). if not (leb (length n) given_names_most) then refused 13 (0 ∷ [])
+          ∙ ap (λ (n : List ℕ). when not (leb (length n) given_names_most) then refused 13 (0 ∷ [])
           else fitting room (encode x)) (sym (described_names (bare e names) ss))
 
 -- ---- the text, by its parts; w is whatever is wanted
@@ -170,8 +172,8 @@ pub alone_compiles : (e : Edition) (t : List ℕ) (room : ℕ) → Alone e t
     → compiling e t first room ≡ document01 e t room
 unfolding compiling document01
 alone_compiles e t room m =
-    ap (λ (a : Answer (List ℕ)). if not (ok_edition e) then refused 3 []
-    else if not (leb (length t) text_most) then refused 1 [] else a) (by_line (line_at t 0) refl)
+    ap (λ (a : Answer (List ℕ)). when not (ok_edition e) then refused 3 []
+    else when not (leb (length t) text_most) then refused 1 [] else a) (by_line (line_at t 0) refl)
   where
     by_fields : (i c : ℕ) → line_at t 0 ≡ Column i → header_at t i ≡ H.Right c → (a : Answer Fields)
         → sayings_from e t (c + 1) ≡ a

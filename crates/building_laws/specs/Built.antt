@@ -5,7 +5,7 @@ use Rattle.std.specs.Prelude.{◌≡◌, refl, Bool, true, false, leb, length, g
 use Rattle.std.proofs.Common.{sym, ap, ◌∙◌, subst, arith, leb-true}
 use mathlib.Core.List.{List, [], ◌∷◌}
 use Prim.Native.Nat.{ℕ, zero, suc, ◌+◌, ◌≤◌, ◌<◌}
-use Rattle.base.specs.If.{if◌then◌else◌}
+use Rattle.base.specs.If.{when◌then◌else◌}
 use Rattle.base.specs.Tabulate.{tabulate, Each}
 use Rattle.base.proofs.TabulateLaws.{each_at, each_tabulate}
 use Rattle.base.specs.Answer.{Answer, refused, gives, map_answer, and_then}
@@ -21,7 +21,8 @@ use Rattle.uses.specs.Walk.{Use, Graph, uses_most, bind, with_uses, brought, bui
 use Rattle.uses.specs.Related.{built_keeps}
 use Rattle.text.specs.Heading.{names_to}
 use Rattle.text.specs.Describing.{Fields, described, bare, Description, description, describing}
-use Rattle.text.specs.Building.{has_name, Having, nobody, numbered, having_from, having, description_at, uses_of, over_in}
+use Rattle.text.specs.Building.{has_name, Having, nobody, numbered, having_from, having}
+use Rattle.text.specs.Building.{description_at, uses_of, over_in}
 use Rattle.text.specs.Building.{own_of, outcome, totals, Wanted, first, named, wanted_as, wanted_in, building}
 use Rattle.text.specs.Building.{building_text}
 use Rattle.text_laws.specs.JudgingLaws.{refused_gives, given_is}
@@ -68,7 +69,7 @@ unfolding having_from
 having_below n [] k d q = absurd (let z : ◌≡◌ {A = ℕ} 0 1 = cc in (let y : ⊥ = omega arith in y))
 having_below n (x ∷ ds) k d q = by_test (has_name n x.names) q (having_below n ds (suc k) d)
   where
-    by_test : (b : Bool) → (if b then numbered k else having_from (suc k) n ds) ≡ numbered d
+    by_test : (b : Bool) → (when b then numbered k else having_from (suc k) n ds) ≡ numbered d
         → (having_from (suc k) n ds ≡ numbered d → d < suc k + length ds) → d < k + suc (length ds)
     by_test true u rest = let z : k ≡ d = cc in omega arith
     by_test false u rest = let l = rest u in omega arith
@@ -92,7 +93,7 @@ totals_each [] q = tt
 totals_each (d ∷ ds) q = by_test (leb (length d.names) given_names_most) refl q (totals_each ds)
   where
     by_test : (b : Bool) → leb (length d.names) given_names_most ≡ b
-        → (if b then totals ds else refused 13 (d.place ∷ [])) ≡ gives tt
+        → (when b then totals ds else refused 13 (d.place ∷ [])) ≡ gives tt
         → (totals ds ≡ gives tt → Each (λ (x : Description). length x.names ≤ given_names_most) ds)
         → (length d.names ≤ given_names_most) × Each (λ (x : Description). length x.names ≤ given_names_most) ds
     by_test true r u rest = (leb-true _ _ r, rest u)

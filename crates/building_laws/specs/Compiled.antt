@@ -2,7 +2,7 @@
 -- Assumes nothing.
 use Rattle.std.specs.Prelude.{◌≡◌, refl, true, not, List, [], ◌∷◌, ℕ, ◌≤◌, leb, length}
 use Rattle.std.proofs.Common.{sym, subst, leb-true, le-leb}
-use Rattle.base.specs.If.{if◌then◌else◌}
+use Rattle.base.specs.If.{when◌then◌else◌}
 use Rattle.base.specs.Answer.{Answer, refused, gives}
 use Rattle.edition.specs.declared.Edition.{Edition}
 use Rattle.edition.specs.Edition.{ok_edition}
@@ -51,7 +51,7 @@ pub compiled_only_if : (e : Edition) (t : List ℕ) (w : Wanted) (room : ℕ) (f
 unfolding compiling
 compiled_only_if e t w room f c =
     let a₁ : Answer (List ℕ) = fitted room (building_text e t w) in
-    let a₀ : Answer (List ℕ) = if not (leb (length t) text_most) then refused 1 [] else a₁ in
+    let a₀ : Answer (List ℕ) = when not (leb (length t) text_most) then refused 1 [] else a₁ in
     let o = test_passed (ok_edition e) 3 [] a₀ f c in
     let p = test_passed (leb (length t) text_most) 1 [] a₁ f o.1 in
     by_entry o.0 (leb-true _ _ p.0) (building_text e t w) refl p.1
@@ -61,7 +61,7 @@ compiled_only_if e t w room f c =
     by_entry o l (refused n v) q u = refused_gives u
     by_entry o l (gives x) q u =
         let n : ℕ = length (encode x) in
-        let a₃ : Answer (List ℕ) = if not (leb n room) then refused 8 (n ∷ []) else gives (encode x) in
+        let a₃ : Answer (List ℕ) = when not (leb n room) then refused 8 (n ∷ []) else gives (encode x) in
         let p₂ = test_passed (leb n file_most) 9 [] a₃ f u in
         let p₃ = test_passed (leb n room) 8 (n ∷ []) (gives (encode x)) f p₂.1 in
         record {

@@ -9,7 +9,7 @@ use Prim.Native.Nat.{ℕ, zero, suc, ◌+◌, ◌-◌, ◌≤◌, ◌<◌}
 use native.Mathlib.Omega.{arith}
 use Rattle.std.proofs.Math.ListN.{length}
 use Rattle.std.proofs.lemmas.Bool.{eqb-false}
-use Rattle.base.specs.If.{if◌then◌else◌}
+use Rattle.base.specs.If.{when◌then◌else◌}
 use Rattle.base.specs.Tabulate.{Each}
 use Rattle.base.specs.Answer.{Answer, refused, gives, map_answer, and_then}
 use Rattle.edition.specs.declared.Edition.{Edition}
@@ -127,10 +127,10 @@ number_at p F.LargeNumber = at_13 p
 number_at p (F.String i n) = at_11 p
 
 -- a string of n bytes
-length_at : {A : Type 0} (p n : ℕ) (x : A) → At p (if leb n content_most then gives x else refused 13 (p ∷ []))
+length_at : {A : Type 0} (p n : ℕ) (x : A) → At p (when leb n content_most then gives x else refused 13 (p ∷ []))
 length_at {A = A} p n x = by_test (leb n content_most)
   where
-    by_test : (b : Bool) → At p (if b then gives x else refused 13 (p ∷ []))
+    by_test : (b : Bool) → At p (when b then gives x else refused 13 (p ∷ []))
     by_test true = tt
     by_test false = at_13 p
 
@@ -159,7 +159,7 @@ named_at_lem : (e : Edition) (t : List ℕ) (p : ℕ) (name : List ℕ) (f : Fie
 unfolding named_saying
 named_at_lem e t p name f = by_use (same_bytes name (ascii "use"))
   where
-    by_use : (b : Bool) → At p (if b then use_by t p f else saying_of t p f (looking_up e name))
+    by_use : (b : Bool) → At p (when b then use_by t p f else saying_of t p f (looking_up e name))
     by_use true = use_at_lem t p f
     by_use false = found_at t p f (looking_up e name)
 
@@ -168,13 +168,13 @@ unfolding judging
 judging_at e t p = by_field (field_at t p)
   where
     by_dropped : (dropped : Bool) (name : List ℕ) (f : FieldForm)
-        → At p (if dropped then gives nothing else named_saying e t p name f)
+        → At p (when dropped then gives nothing else named_saying e t p name f)
     by_dropped true name f = tt
     by_dropped false name f = named_at_lem e t p name f
 
     by_field : (f : Field) → At p (judging_of e t p f)
     by_field (G.Right dropped i k f next) =
-        map_at _ p (if dropped then gives nothing else named_saying e t p (take (k - i) (drop i t)) f)
+        map_at _ p (when dropped then gives nothing else named_saying e t p (take (k - i) (drop i t)) f)
         (by_dropped dropped _ f)
     by_field G.Malformed = at_10 p
 
@@ -328,7 +328,7 @@ module _ (e : Edition) (t : List ℕ) where
     totals_within (x ∷ xs) h = by_test (leb (length x.names) given_names_most) (totals_within xs h.1)
       where
         by_test : (b : Bool) → Within FieldNumber (length t) (totals xs)
-            → Within FieldNumber (length t) (if b then totals xs else refused 13 (x.place ∷ []))
+            → Within FieldNumber (length t) (when b then totals xs else refused 13 (x.place ∷ []))
         by_test true rest = rest
         by_test false rest =
             let s = h.0 in
@@ -397,13 +397,13 @@ unfolding compiling
 compiling_judged e t w room = by_edition (ok_edition e)
   where
     by_room : (x : Entry) → length (encode x) ≤ file_most → (b : Bool)
-        → Judged (if not b then refused 8 (length (encode x) ∷ []) else gives (encode x))
+        → Judged (when not b then refused 8 (length (encode x) ∷ []) else gives (encode x))
     by_room x l true = l
     by_room x l false = (inr (inr (inr refl)), omega arith)
 
     by_size : (x : Entry) (b : Bool) → leb (length (encode x)) file_most ≡ b
-        → Judged (if not b then refused 9 []
-        else if not (leb (length (encode x)) room) then refused 8 (length (encode x) ∷ []) else gives (encode x))
+        → Judged (when not b then refused 9 []
+        else when not (leb (length (encode x)) room) then refused 8 (length (encode x) ∷ []) else gives (encode x))
     by_size x true q = by_room x (leb-true _ _ q) (leb (length (encode x)) room)
     by_size x false q = (inr (inr (inl refl)), omega arith)
 
@@ -412,12 +412,12 @@ compiling_judged e t w room = by_edition (ok_edition e)
     by_entry l (gives x) h = by_size x (leb (length (encode x)) file_most) refl
 
     by_length : (b : Bool) → leb (length t) text_most ≡ b
-        → Judged (if not b then refused 1 [] else fitted room (building_text e t w))
+        → Judged (when not b then refused 1 [] else fitted room (building_text e t w))
     by_length true q = by_entry (leb-true _ _ q) (building_text e t w) (text_within e t w)
     by_length false q = (inl (inr refl), omega arith)
 
-    by_edition : (b : Bool) → Judged (if not b then refused 3 []
-        else if not (leb (length t) text_most) then refused 1 [] else fitted room (building_text e t w))
+    by_edition : (b : Bool) → Judged (when not b then refused 3 []
+        else when not (leb (length t) text_most) then refused 1 [] else fitted room (building_text e t w))
     by_edition true = by_length (leb (length t) text_most) refl
     by_edition false = (inl (inl refl), omega arith)
 

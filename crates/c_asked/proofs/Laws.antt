@@ -8,7 +8,7 @@ use native.Mathlib.Omega.{arith}
 use lib.Dec.{ltb}
 use lib.ListN.{length, take, length-take}
 use borrow.Author.Tests.{eq-eqb, ne_eqb, ltb-true}
-use Rattle.base.specs.If.{if◌then◌else◌}
+use Rattle.base.specs.If.{when◌then◌else◌}
 use Rattle.edition.specs.declared.Edition.{Edition}
 use Rattle.edition.specs.declared.Kind.TheVariants as Kinds
 use Rattle.edition.specs.declared.Place.{Place}
@@ -104,8 +104,8 @@ there_below c n names i e b h =
     omega arith
 
 by_tests : (x y z : Bool) (i j k : ℕ) → (x ≡ true → i < 2 ^ 48) → (y ≡ true → j < 2 ^ 48) → (z ≡ true → k < 2 ^ 48)
-    → FoundWithin (if x then F.Boolean (place i) else if y then F.Number (place j)
-    else if z then F.String (place k) else F.Unknown)
+    → FoundWithin (when x then F.Boolean (place i) else when y then F.Number (place j)
+    else when z then F.String (place k) else F.Unknown)
 by_tests true y z i j k f g h = f refl
 by_tests false true z i j k f g h = g refl
 by_tests false false true i j k f g h = h refl

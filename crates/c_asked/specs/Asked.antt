@@ -1,7 +1,7 @@
 -- The calls for C that ask: the number that each answers (include/terminfo_c.h says the same in words).
 -- Assumes nothing.
 use Rattle.std.specs.Prelude.{List, [], ℕ, eqb, get_or}
-use Rattle.base.specs.If.{if◌then◌else◌}
+use Rattle.base.specs.If.{when◌then◌else◌}
 use Rattle.base.specs.Tabulate.{tabulate}
 use Rattle.base.specs.Answer.{Answer, refused, gives, is_given}
 use Rattle.edition.specs.declared.Edition.{Edition}
@@ -21,9 +21,9 @@ edition b n s = record { booleans = b; numbers = n; strings = s }
 -- a place asked for by the number of its kind; a number that is no kind is 17
 unfoldable pub asked_code : Edition → List ℕ → ℕ → ℕ → ℕ
 asked_code e f k i =
-    if eqb k 0 then boolean_number (asking_boolean e f (place i))
-    else if eqb k 1 then number_number (asking_number e f (place i))
-    else if eqb k 2 then string_number (asking_string e f (place i))
+    when eqb k 0 then boolean_number (asking_boolean e f (place i))
+    else when eqb k 1 then number_number (asking_number e f (place i))
+    else when eqb k 2 then string_number (asking_string e f (place i))
     else refused_number 17
 
 -- the calls for one capability
@@ -39,15 +39,15 @@ string_state b n s f i = string_number (asking_string (edition b n s) f (place i
 -- eight places asked for in one call: what it stores; 17 where opening would refuse
 unfoldable pub asking8 : Edition → List ℕ → List ℕ → List ℕ → Answer (List ℕ)
 asking8 e f kinds places =
-    if is_given (opening e f) then gives (tabulate (λ i. asked_code e f (get_or kinds i 0) (get_or places i 0)) 8)
+    when is_given (opening e f) then gives (tabulate (λ i. asked_code e f (get_or kinds i 0) (get_or places i 0)) 8)
     else refused 17 []
 
 -- a name asked for by the number of its kind
 unfoldable pub naming_by : ℕ → ℕ → Answer ℕ
 naming_by k i =
-    if eqb k 0 then naming Kinds.Boolean (place i)
-    else if eqb k 1 then naming Kinds.Number (place i)
-    else if eqb k 2 then naming Kinds.String (place i)
+    when eqb k 0 then naming Kinds.Boolean (place i)
+    else when eqb k 1 then naming Kinds.Number (place i)
+    else when eqb k 2 then naming Kinds.String (place i)
     else refused 17 []
 
 -- the capability that a name means in an edition; 11 for a name that the edition doesn't know

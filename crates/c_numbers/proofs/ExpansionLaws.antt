@@ -9,7 +9,7 @@ use lib.Dec.{leb}
 use lib.IntN.{ℤ}
 use lib.ListN.{length}
 use borrow.Author.Tests.{leb-true}
-use Rattle.base.specs.If.{if◌then◌else◌}
+use Rattle.base.specs.If.{when◌then◌else◌}
 use Rattle.base.specs.Answer.{Answer, refused, map_answer, number_of}
 use Rattle.expansion.specs.Limits.{string_most, expansion_most}
 use Rattle.expansion.specs.declared.Argument.{Argument}
@@ -60,10 +60,10 @@ within_most s arguments lent lasting size at room r m e w =
     by_place (leb at size) (each_passes (lies_in lent) arguments) (leb (length s) string_most) refl e
   where
     rest : Answer Expanding
-    rest = if not (each_passes is_short arguments) then refused 1 [] else formed (form_of s) (ended (run s (values_of lent arguments) lasting) (size - at))
+    rest = when not (each_passes is_short arguments) then refused 1 [] else formed (form_of s) (ended (run s (values_of lent arguments) lasting) (size - at))
 
     by_place : (p q u : Bool) → leb (length s) string_most ≡ u
-        → says_expansion r ≡ map_answer counted (if not p then refused 17 [] else if not q then refused 17 [] else if not u then refused 1 [] else rest)
+        → says_expansion r ≡ map_answer counted (when not p then refused 17 [] else when not q then refused 17 [] else when not u then refused 1 [] else rest)
         → Within string_most expansion_most r
     by_place false q u t e = plain_place r string_most expansion_most (ap number_of e)
     by_place true false u t e = plain_place r string_most expansion_most (ap number_of e)

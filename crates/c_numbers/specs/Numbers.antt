@@ -1,6 +1,6 @@
 -- Each answer as one 64-bit number (include/terminfo_c.h says the same in words). Assumes nothing.
 use Rattle.std.specs.Prelude.{List, [], ◌∷◌, ℕ, ◌+◌, ◌*◌, ◌^◌, ◌≤◌, ◌<◌, leb, get_or}
-use Rattle.base.specs.If.{if◌then◌else◌}
+use Rattle.base.specs.If.{when◌then◌else◌}
 use Rattle.entry.specs.declared.Part.{Part}
 use Rattle.entry.specs.State.{State, absent, cancelled, present}
 use Rattle.entry.specs.declared.Names.{Names}
@@ -33,7 +33,7 @@ numbered code (gives x) = code x
 -- merging: below a file's refusal, 1 to 7, which file in the byte below the top one, and the position below it
 unfoldable pub merging_number : {A : Type 0} → (A → ℕ) → Answer A → ℕ
 merging_number code (refused n v) =
-    n * 2 ^ 56 + (if leb n 7 then get_or v 0 0 * 2 ^ 48 + get_or v 1 0 else get_or v 0 0)
+    n * 2 ^ 56 + (when leb n 7 then get_or v 0 0 * 2 ^ 48 + get_or v 1 0 else get_or v 0 0)
 merging_number code (gives x) = code x
 
 -- a call that gives nothing in its number

@@ -4,6 +4,8 @@
 //
 // The text's first description, if it is the wanted one, is walked at once: it may be alone and have no uses. Any other
 // text is judged whole, and the fields of each description that the wanted one leads to are walked after that.
+#![tactic(auto)]
+
 ghost use Rattle.std.specs.Prelude.{length};
 ghost use Rattle.base.specs.Answer.{Leaves};
 ghost use Rattle.text.specs.Building.{first, named};

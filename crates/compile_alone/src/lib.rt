@@ -1,6 +1,8 @@
 // Compiles the text's first description, if it is alone and wanted: it is walked at once. Proved: what `try_first`
 // answers is what `building_text` and `fitted` of text/specs give; where it answers nothing, the buffer is as it was.
 // Assumed: nothing.
+#![tactic(auto)]
+
 ghost use Rattle.std.specs.Prelude.{◌≡◌, true, ◌<◌, length};
 ghost use Rattle.edition.specs.Edition.{ok_edition};
 ghost use Rattle.text.specs.declared.Header.TheVariants as Headers;

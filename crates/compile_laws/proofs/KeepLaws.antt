@@ -11,7 +11,7 @@ use lib.Dec.{eqb}
 use lib.ListN.{length, get_or, set, length-set}
 use lib.Seq.{get_or-set_same, get_or-set_other}
 use borrow.Author.Tests.{eq-eqb, ne_eqb, eqb-true, eqb-false}
-use Rattle.base.specs.If.{if◌then◌else◌}
+use Rattle.base.specs.If.{when◌then◌else◌}
 use Rattle.base.specs.Tabulate.{tabulate}
 use Rattle.base.proofs.TabulateLaws.{get_d_tabulate, tabulate_ext}
 use Rattle.edition.specs.declared.Edition.{Edition}
@@ -73,7 +73,7 @@ over_given : {A : Type 0} (k : ℕ) (x : A) (s : State A) → (k ≡ 0 → ⊥) 
 unfolding over state_of
 over_given k x s e = rw (ne_eqb _ _ e) (by_test (eqb k 1))
   where
-    by_test : (b : Bool) → over (if b then present x else cancelled) s ≡ (if b then present x else cancelled)
+    by_test : (b : Bool) → over (when b then present x else cancelled) s ≡ (when b then present x else cancelled)
     by_test true = refl
     by_test false = refl
 

@@ -2,7 +2,7 @@
 -- starts at a place of the text.
 -- Assumes nothing.
 use Rattle.std.specs.Prelude.{◌≡◌, List, [], ℕ, ◌+◌, ◌≤◌, ◌<◌, eqb, length, get_or, set}
-use Rattle.base.specs.If.{if◌then◌else◌}
+use Rattle.base.specs.If.{when◌then◌else◌}
 use Rattle.edition.specs.declared.Edition.{Edition}
 use Rattle.entry.specs.Limits.{content_most}
 use Rattle.entry.specs.State.{State}
@@ -38,7 +38,7 @@ pub record Holds (e : Edition) (h : Handed) : Type 0 where
 
 -- xs with v at p, where the capability there has no kind yet
 unfoldable pub kept : (kinds xs : List ℕ) → ℕ → ℕ → List ℕ
-kept kinds xs p v = if eqb (get_or kinds p 0) 0 then set xs p v else xs
+kept kinds xs p v = when eqb (get_or kinds p 0) 0 then set xs p v else xs
 
 -- what a field says is kept, under whatever names
 pub record Keeps (e : Edition) (before after : List ℕ → Handed) (s : Said) : Type 0 where

@@ -9,7 +9,7 @@ use native.Mathlib.Omega.{arith}
 use lib.Dec.{leb}
 use lib.ListN.{length, get_or}
 use borrow.Author.Tests.{le-leb, leb-true}
-use Rattle.base.specs.If.{if◌then◌else◌}
+use Rattle.base.specs.If.{when◌then◌else◌}
 use Rattle.base.specs.Answer.{Answer, refused, gives, Leaves}
 use Rattle.edition.specs.declared.Edition.{Edition}
 use Rattle.entry.specs.Limits.{given_names_most}
@@ -75,7 +75,7 @@ having_below k n [] d q = absurd (let z : ◌≡◌ {A = ℕ} 0 1 = cc in (let y
 having_below k n (x ∷ ds) d q = by_test (has_name n x.names) (having_below (suc k) n ds d) q
   where
     by_test : (b : Bool) → (having_from (suc k) n ds ≡ numbered d → d < suc k + length ds)
-        → (if b then numbered k else having_from (suc k) n ds) ≡ numbered d → d < k + suc (length ds)
+        → (when b then numbered k else having_from (suc k) n ds) ≡ numbered d → d < k + suc (length ds)
     by_test true below u = let z : k ≡ d = cc in omega arith
     by_test false below u = let l = below u in omega arith
 
@@ -99,7 +99,7 @@ totals_fit (x ∷ ds) d q l = by_test (leb (length x.names) given_names_most) re
   where
     by_test : (b : Bool) → leb (length x.names) given_names_most ≡ b
         → ((d : ℕ) → totals ds ≡ gives tt → d < length ds → length (description_at ds d).names ≤ given_names_most)
-        → (if b then totals ds else refused 13 (x.place ∷ [])) ≡ gives tt → (d : ℕ) → d < suc (length ds)
+        → (when b then totals ds else refused 13 (x.place ∷ [])) ≡ gives tt → (d : ℕ) → d < suc (length ds)
         → length (description_at (x ∷ ds) d).names ≤ given_names_most
     by_test true u later v zero m = leb-true _ _ u
     by_test true u later v (suc d) m = later d v (le_of_suc-le-suc m)

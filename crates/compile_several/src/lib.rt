@@ -1,6 +1,8 @@
 // Compiles the wanted description of a text that is judged whole first, and then walks the fields of each description
 // that the wanted one leads to (document 01: Source text; document 02, 2026-02). Proved: `compile` answers what
 // `building_text` and `fitted` of text/specs give, and a refusal leaves the buffer as it was. Assumed: nothing.
+#![tactic(auto)]
+
 ghost use Rattle.std.specs.Prelude.{◌≡◌, true, ◌≤◌, ◌<◌, length, get_or};
 ghost use Rattle.base.specs.Answer.{gives, Leaves};
 ghost use Rattle.edition.specs.Edition.{ok_edition};

@@ -9,7 +9,7 @@ use native.Mathlib.Omega.{arith}
 use lib.Dec.{eqb, ltb}
 use lib.ListN.{length}
 use borrow.Author.Tests.{lt-ltb, le-ltb, ltb-true, eq-eqb, ne_eqb, eqb-true}
-use Rattle.base.specs.If.{if◌then◌else◌}
+use Rattle.base.specs.If.{when◌then◌else◌}
 use Rattle.base.proofs.IfLaws.{below_or}
 use Rattle.expansion.specs.declared.Class.{Class}
 use Rattle.expansion.specs.declared.Class.TheVariants.{Plain, If, Then, Else, End, Wrong}
@@ -30,7 +30,7 @@ checked_stop : (f : ℕ) (s : List ℕ) (i k : ℕ) → i < length s → nested 
 unfolding checked
 checked_stop f s i k h q = rw (checked, lt-ltb i (length s) h, q)
 
-checked_end : (f : ℕ) (s : List ℕ) (i k : ℕ) → length s ≤ i → checked (suc f) s i k ≡ (if eqb k 0 then F.Right else F.Wrong (length s))
+checked_end : (f : ℕ) (s : List ℕ) (i k : ℕ) → length s ≤ i → checked (suc f) s i k ≡ (when eqb k 0 then F.Right else F.Wrong (length s))
 unfolding checked
 checked_end f s i k h = rw (checked, le-ltb i (length s) h)
 
@@ -54,7 +54,7 @@ left_go s i k k' h q =
 pub left_stop : (s : List ℕ) (i k : ℕ) → i < length s → nested (class_at s i).class k ≡ Stop → form_left s i k ≡ F.Wrong i
 left_stop s i k h q = checked_stop (length s) s i k h q
 
-pub left_end : (s : List ℕ) (i k : ℕ) → length s ≤ i → form_left s i k ≡ (if eqb k 0 then F.Right else F.Wrong (length s))
+pub left_end : (s : List ℕ) (i k : ℕ) → length s ≤ i → form_left s i k ≡ (when eqb k 0 then F.Right else F.Wrong (length s))
 left_end s i k h = checked_end (length s) s i k h
 
 -- ---- the number kept stays small
@@ -63,7 +63,7 @@ abbrev kept_of : Turn → ℕ
 kept_of Stop = 0
 kept_of (Go k) = k
 
-kept_if : (n : ℕ) (b : Bool) (x y : Turn) → (b ≡ true → kept_of x ≤ n) → (b ≡ false → kept_of y ≤ n) → kept_of (if b then x else y) ≤ n
+kept_if : (n : ℕ) (b : Bool) (x y : Turn) → (b ≡ true → kept_of x ≤ n) → (b ≡ false → kept_of y ≤ n) → kept_of (when b then x else y) ≤ n
 kept_if n true x y p q = p refl
 kept_if n false x y p q = q refl
 

@@ -1,7 +1,7 @@
 -- What is usual in source text, for which the code has a short way.
 -- Assumes nothing.
 use Rattle.std.specs.Prelude.{◌≡◌, Bool, ◌&&◌, List, ℕ, ◌+◌, ◌*◌, ◌%◌, eqb, get_or}
-use Rattle.base.specs.If.{if◌then◌else◌}
+use Rattle.base.specs.If.{when◌then◌else◌}
 use Rattle.text.specs.declared.StringItem.TheVariants as S
 use Rattle.text.specs.Bytes.{between}
 use Rattle.text.specs.Strings.{is_control, string_item_at, stored_byte}
@@ -20,11 +20,12 @@ is_control_at t i = eqb (get_or t i 0) 94 && is_control (get_or t (i + 1) 0)
 unfoldable pub is_octal : List ℕ → ℕ → Bool
 is_octal t i =
     eqb (get_or t i 0) 92
-    && (between 48 51 (get_or t (i + 1) 0) && (between 48 55 (get_or t (i + 2) 0) && between 48 55 (get_or t (i + 3) 0)))
+    && (between 48 51 (get_or t (i + 1) 0)
+    && (between 48 55 (get_or t (i + 2) 0) && between 48 55 (get_or t (i + 3) 0)))
 
 -- the byte that either of the first two stands for
 unfoldable pub pair_of : List ℕ → ℕ → ℕ
-pair_of t i = if eqb (get_or t i 0) 94 then get_or t (i + 1) 0 % 32 else 27
+pair_of t i = when eqb (get_or t i 0) 94 then get_or t (i + 1) 0 % 32 else 27
 
 -- the byte that the third stands for
 unfoldable pub octal_value : List ℕ → ℕ → ℕ

@@ -1,5 +1,7 @@
 // The lines of counts that show a compiled file in an edition: how many places of each list the edition knows, and how
 // many slots of the file lie beyond it. Proved: each line is the one of specs/Counts.antt. Assumed: nothing.
+#![tactic(auto)]
+
 ghost use Rattle.std.specs.Prelude.{◌≡◌, ◌+◌, ◌≤◌, length};
 ghost use Rattle.entry.specs.Asking.{opening};
 ghost use Rattle.entry.specs.Says.{says_opened};

@@ -9,7 +9,7 @@ use lib.Dec.{leb}
 use lib.ListN.{length, get_or, drop, length-drop, drop_of_length-le}
 use lib.Seq.{drop-cons, length-take-le}
 use borrow.Author.Tests.{le-leb, lt-leb}
-use Rattle.base.specs.If.{if◌then◌else◌}
+use Rattle.base.specs.If.{when◌then◌else◌}
 use Rattle.base.specs.Answer.{refused}
 use Rattle.edition.specs.declared.Edition.{Edition}
 use Rattle.entry.specs.Limits.{given_names_most}
@@ -62,7 +62,7 @@ module _ (heads commas : List ℕ) (count d : ℕ) (f : FitBefore heads commas c
     -- the totals from the d-th description on, by its own
     totals_one : (e : Edition) (t : List ℕ) (ds : List Description) → Listed e t heads commas count ds
         → totals (drop d ds)
-        ≡ (if leb (get_or commas d 0 - get_or heads d 0) given_names_most then totals (drop (d + 1) ds)
+        ≡ (when leb (get_or commas d 0 - get_or heads d 0) given_names_most then totals (drop (d + 1) ds)
         else refused 13 (head_place d (get_or heads d 0) ∷ []))
     unfolding totals
     totals_one e t ds w =

@@ -1,5 +1,7 @@
 // The descriptions of a text: each header and its fields, judged in the text's order, and the names' totals (document
 // 02, 2026-02). Proved: `read` and `totals` answer as `describing` and `totals` of text/specs say. Assumed: nothing.
+#![tactic(auto)]
+
 ghost use Rattle.std.specs.Prelude.{◌≡◌, List, [], ◌∷◌, ℕ, ◌+◌, ◌*◌, ◌≤◌, ◌<◌, length, get_or, set};
 ghost use Rattle.base.specs.Answer.{refused};
 ghost use Rattle.edition.specs.declared.Edition.{Edition};

@@ -10,7 +10,7 @@ use lib.Dec.{eqb, leb}
 use lib.ListN.{length, get_or, take, drop, length-drop}
 use lib.Seq.{take-length, drop-cons}
 use borrow.Author.Tests.{eqb-true, eq-eqb, ne_eqb, leb-true, leb-false}
-use Rattle.base.specs.If.{if◌then◌else◌}
+use Rattle.base.specs.If.{when◌then◌else◌}
 use Rattle.expansion.specs.Items.{is_digit, decimal}
 use Rattle.names.specs.Names.{on_first, parted}
 use Rattle.number_words.specs.Number.{are_digits, is_numeral, no_magnitude, magnitude_of}
@@ -31,7 +31,7 @@ part_digits s z = rw (ne_eqb (length s) 0 z)
 
 -- what a part is, by its count
 abbrev Part : List ℕ → Bool → Bool → ℕ
-Part s a t = if a then (if t then decimal 0 s else 2147483649) else no_magnitude
+Part s a t = when a then (when t then decimal 0 s else 2147483649) else no_magnitude
 
 no_numeral : (s : List ℕ) → 2147483649 < count_in s → is_numeral s ≡ false
 unfolding count_in
@@ -65,7 +65,7 @@ module _ (b n s : List ℕ) where
   numbers_wrong h = by_test (is_numeral b) (no_numeral n h)
     where
       by_test : (a : Bool) → is_numeral n ≡ false
-          → Wrong ≡ (if a && (is_numeral n && is_numeral s) then
+          → Wrong ≡ (when a && (is_numeral n && is_numeral s) then
           Given (record { booleans = count_of b; numbers = count_of n; strings = count_of s }) else Wrong)
       by_test true e = rw e
       by_test false e = refl
@@ -75,7 +75,7 @@ module _ (b n s : List ℕ) where
   no_strings e = by_tests (is_numeral b) (is_numeral n)
     where
       by_tests : (a c : Bool)
-          → Wrong ≡ (if a && (c && is_numeral s) then
+          → Wrong ≡ (when a && (c && is_numeral s) then
           Given (record { booleans = count_of b; numbers = count_of n; strings = count_of s }) else Wrong)
       by_tests true true = rw e
       by_tests true false = refl
@@ -120,7 +120,7 @@ unfolding before_comma
 before_most [] = omega arith
 before_most (c ∷ s) = by_test (eqb c 44) (before_most s)
   where
-    by_test : (u : Bool) → before_comma s ≤ length s → (if u then 0 else suc (before_comma s)) ≤ suc (length s)
+    by_test : (u : Bool) → before_comma s ≤ length s → (when u then 0 else suc (before_comma s)) ≤ suc (length s)
     by_test true h = omega arith
     by_test false h = omega arith
 
@@ -139,10 +139,10 @@ unfolding parted before_comma
 parted_more [] h = absurd (let z : ⊥ = omega arith in z)
 parted_more (c ∷ s) h = by_test (eqb c 44) h (parted_more s)
   where
-    by_test : (u : Bool) → (if u then 0 else suc (before_comma s)) < suc (length s)
+    by_test : (u : Bool) → (when u then 0 else suc (before_comma s)) < suc (length s)
         → (before_comma s < length s → parted 44 s ≡ take (before_comma s) s ∷ parted 44 (drop (before_comma s + 1) s))
-        → (if u then [] ∷ parted 44 s else on_first c (parted 44 s))
-        ≡ (let k : ℕ = if u then 0 else suc (before_comma s) in take k (c ∷ s) ∷ parted 44 (drop (k + 1) (c ∷ s)))
+        → (when u then [] ∷ parted 44 s else on_first c (parted 44 s))
+        ≡ (let k : ℕ = when u then 0 else suc (before_comma s) in take k (c ∷ s) ∷ parted 44 (drop (k + 1) (c ∷ s)))
     by_test true h e = refl
     by_test false h e = rw (e (omega (arith, h)), add-one (before_comma s), add-one (suc (before_comma s)))
 
@@ -152,9 +152,9 @@ unfolding parted before_comma
 parted_alone [] h = refl
 parted_alone (c ∷ s) h = by_test (eqb c 44) h (parted_alone s)
   where
-    by_test : (u : Bool) → suc (length s) ≤ (if u then 0 else suc (before_comma s))
+    by_test : (u : Bool) → suc (length s) ≤ (when u then 0 else suc (before_comma s))
         → (length s ≤ before_comma s → parted 44 s ≡ s ∷ [])
-        → (if u then [] ∷ parted 44 s else on_first c (parted 44 s)) ≡ (c ∷ s) ∷ []
+        → (when u then [] ∷ parted 44 s else on_first c (parted 44 s)) ≡ (c ∷ s) ∷ []
     by_test true h e = absurd (let z : ⊥ = omega (arith, h) in z)
     by_test false h e = rw (e (omega (arith, h)))
 
@@ -175,7 +175,7 @@ unfolding are_digits before_comma
 comma_wrong [] h = absurd (let z : ⊥ = omega arith in z)
 comma_wrong (c ∷ s) h = by_test (eqb c 44) refl h (comma_wrong s)
   where
-    by_test : (u : Bool) → eqb c 44 ≡ u → (if u then 0 else suc (before_comma s)) < suc (length s)
+    by_test : (u : Bool) → eqb c 44 ≡ u → (when u then 0 else suc (before_comma s)) < suc (length s)
         → (before_comma s < length s → are_digits s ≡ false) → (is_digit c && are_digits s) ≡ false
     by_test true q h e = rw (eqb-true c 44 q)
     by_test false q h e = rw (e (omega (arith, h))) (and-false (is_digit c))

@@ -2,7 +2,7 @@
 -- Assumes nothing.
 use Rattle.std.specs.Prelude.{◌&&◌, List, [], ◌∷◌, ℕ, suc, eqb, length, get_or}
 use Prim.Native.Char.{code}
-use Rattle.base.specs.If.{if◌then◌else◌}
+use Rattle.base.specs.If.{when◌then◌else◌}
 use Rattle.expansion.specs.Items.{decimal}
 use Rattle.names.specs.Names.{first_edition, second_edition, parted}
 use Rattle.number_words.specs.Number.{is_numeral, limited, no_magnitude}
@@ -16,7 +16,7 @@ count_of digits = limited (decimal 0 digits)
 -- the edition of three counts: one or more digits each
 unfoldable pub counted_by : List ℕ → List ℕ → List ℕ → EditionWord
 counted_by b n s =
-    if is_numeral b && (is_numeral n && is_numeral s) then
+    when is_numeral b && (is_numeral n && is_numeral s) then
     Given (record { booleans = count_of b; numbers = count_of n; strings = count_of s })
     else Wrong
 
@@ -31,20 +31,20 @@ counted (_ ∷ (_ ∷ (_ ∷ (_ ∷ _)))) = Wrong
 -- the edition of one byte
 unfoldable pub numbered : ℕ → EditionWord
 numbered c =
-    if eqb c (code "1") then Given first_edition
-    else if eqb c (code "2") then Given second_edition
+    when eqb c (code "1") then Given first_edition
+    else when eqb c (code "2") then Given second_edition
     else Wrong
 
 unfoldable pub edition_of : List ℕ → EditionWord
-edition_of word = if eqb (length word) 1 then numbered (get_or word 0 0) else counted (parted (code ",") word)
+edition_of word = when eqb (length word) 1 then numbered (get_or word 0 0) else counted (parted (code ",") word)
 
 -- ---- what the code goes by
 
 -- a part's count, or a number above each count where it is none
 unfoldable pub count_in : List ℕ → ℕ
-count_in s = if is_numeral s then count_of s else no_magnitude
+count_in s = when is_numeral s then count_of s else no_magnitude
 
 -- how many bytes stand before the first comma, or in all where there is none
 unfoldable pub before_comma : List ℕ → ℕ
 before_comma [] = 0
-before_comma (c ∷ s) = if eqb c (code ",") then 0 else suc (before_comma s)
+before_comma (c ∷ s) = when eqb c (code ",") then 0 else suc (before_comma s)

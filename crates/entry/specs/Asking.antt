@@ -1,7 +1,7 @@
 -- What opening and asking give (document 01: Compiled entry; Numbers of refusal, order of reading and 17).
 -- Assumes nothing.
 use Rattle.std.specs.Prelude.{Bool, true, ◌&&◌, not, List, [], ℕ}
-use Rattle.base.specs.If.{if◌then◌else◌}
+use Rattle.base.specs.If.{when◌then◌else◌}
 use Rattle.edition.specs.declared.Edition.{Edition}
 use Rattle.edition.specs.declared.Place.{Place}
 use Rattle.edition.specs.Edition.{ok_edition, knows}
@@ -24,12 +24,12 @@ opening_of e s = record { tables = tables_of s; beyond = beyond_of e s }
 
 -- "Order of reading: edition 3, then .."
 unfoldable pub opening : Edition → List ℕ → Answer Opening
-opening e f = if not (ok_edition e) then refused 3 [] else map_answer (opening_of e) (reading f)
+opening e f = when not (ok_edition e) then refused 3 [] else map_answer (opening_of e) (reading f)
 
 -- "An asked place beyond the edition is 17". Left free by document 01: a place of a file that opening refuses. It is 17
 -- too, since a file with an edition is an entry made without opening, "one that opening wouldn't give for its bytes"
 unfoldable pub asking : {A : Type 0} → Edition → List ℕ → Bool → A → Answer A
-asking e f known x = if is_given (opening e f) && known then gives x else refused 17 []
+asking e f known x = when is_given (opening e f) && known then gives x else refused 17 []
 
 abbrev pub asking_names : Edition → List ℕ → Answer Part
 asking_names e f = asking e f true (names_part (sizes_of f))

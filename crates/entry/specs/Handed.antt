@@ -3,7 +3,8 @@
 use Rattle.std.specs.Prelude.{List, [], ℕ}
 use Rattle.entry.specs.Writing.{Handed}
 
-abbrev pub handed : (names boolean_kinds number_kinds number_values string_kinds string_starts string_lengths lent : List ℕ)
+abbrev pub handed : (names boolean_kinds number_kinds number_values string_kinds string_starts string_lengths
+    lent : List ℕ)
     → Handed
 handed names boolean_kinds number_kinds number_values string_kinds string_starts string_lengths lent =
     record {
@@ -18,7 +19,8 @@ handed names boolean_kinds number_kinds number_values string_kinds string_starts
     }
 
 -- the states without the names
-abbrev pub states_handed : (boolean_kinds number_kinds number_values string_kinds string_starts string_lengths lent : List ℕ)
+abbrev pub states_handed : (boolean_kinds number_kinds number_values string_kinds string_starts string_lengths
+    lent : List ℕ)
     → Handed
 states_handed boolean_kinds number_kinds number_values string_kinds string_starts string_lengths lent =
     handed [] boolean_kinds number_kinds number_values string_kinds string_starts string_lengths lent

@@ -2,7 +2,7 @@
 -- 2026-05).
 -- Assumes nothing.
 use Rattle.std.specs.Prelude.{not, List, [], ◌∷◌, ℕ}
-use Rattle.base.specs.If.{if◌then◌else◌}
+use Rattle.base.specs.If.{when◌then◌else◌}
 use Rattle.base.specs.Tabulate.{tabulate}
 use Rattle.edition.specs.declared.Edition.{Edition}
 use Rattle.edition.specs.declared.Place.{Place}
@@ -49,7 +49,7 @@ of_file k (gives x) = gives x
 -- the buffer's length, and what is given is the file
 unfoldable pub merging : Edition → List ℕ → List ℕ → ℕ → Answer (List ℕ)
 merging e a b room =
-    if not (ok_edition e) then refused 3 []
+    when not (ok_edition e) then refused 3 []
     else and_then (of_file 1 (reading a))
     (and_then (of_file 2 (reading b))
     (fitting room (encode (merged e a b))))

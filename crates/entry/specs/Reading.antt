@@ -2,8 +2,9 @@
 -- accepted file says (document 01: Compiled entry, Numbers of refusal; document 02, 2026-05). A place past the file's
 -- slots is absent.
 -- Assumes nothing.
-use Rattle.std.specs.Prelude.{Bool, ◌&&◌, ◌||◌, not, List, [], ◌∷◌, ℕ, ◌+◌, ◌-◌, ◌*◌, eqb, ltb, leb, length, get_or, take, drop}
-use Rattle.base.specs.If.{if◌then◌else◌}
+use Rattle.std.specs.Prelude.{Bool, ◌&&◌, ◌||◌, not, List, [], ◌∷◌, ℕ, ◌+◌, ◌-◌, ◌*◌, eqb, ltb, leb, length, get_or}
+use Rattle.std.specs.Prelude.{take, drop}
+use Rattle.base.specs.If.{when◌then◌else◌}
 use Rattle.base.specs.Scan.{scan, every}
 use Rattle.word.specs.Word.{word}
 pub use Rattle.word.specs.Nul.{nul_from}
@@ -86,14 +87,14 @@ bad_string f s = strings_at s + offset_width * scan (ok_string_at f s) 0 s.strin
 -- offending byte or slot in the file"
 unfoldable pub reading : List ℕ → Answer Sizes
 reading f =
-    if not (leb header_size (length f) && leb (length f) file_most) then refused 1 []
-    else if not (eqb (short_in f 0) magic) then refused 2 []
-    else if not (ok_counts (sizes_of f)) then refused 3 []
-    else if not (eqb (length f) (size_of (sizes_of f))) then refused 1 []
-    else if not (ok_names f (sizes_of f)) then refused 4 (bad_names f (sizes_of f) ∷ [])
-    else if not (ok_booleans f (sizes_of f) && ok_pad f (sizes_of f)) then refused 5 (bad_boolean f (sizes_of f) ∷ [])
-    else if not (ok_numbers f (sizes_of f)) then refused 6 (bad_number f (sizes_of f) ∷ [])
-    else if not (ok_strings f (sizes_of f)) then refused 7 (bad_string f (sizes_of f) ∷ [])
+    when not (leb header_size (length f) && leb (length f) file_most) then refused 1 []
+    else when not (eqb (short_in f 0) magic) then refused 2 []
+    else when not (ok_counts (sizes_of f)) then refused 3 []
+    else when not (eqb (length f) (size_of (sizes_of f))) then refused 1 []
+    else when not (ok_names f (sizes_of f)) then refused 4 (bad_names f (sizes_of f) ∷ [])
+    else when not (ok_booleans f (sizes_of f) && ok_pad f (sizes_of f)) then refused 5 (bad_boolean f (sizes_of f) ∷ [])
+    else when not (ok_numbers f (sizes_of f)) then refused 6 (bad_number f (sizes_of f) ∷ [])
+    else when not (ok_strings f (sizes_of f)) then refused 7 (bad_string f (sizes_of f) ∷ [])
     else gives (sizes_of f)
 
 -- ---- what a file says
@@ -103,11 +104,11 @@ unfoldable pub names_part : Sizes → Part
 names_part s = record { start = header_size; length = s.names - 1 }
 
 unfoldable pub boolean_in : List ℕ → Sizes → Place → State Unit
-boolean_in f s p = if ltb p.0 s.booleans then boolean_of (get_or f (booleans_at s + p.0) 0) else absent
+boolean_in f s p = when ltb p.0 s.booleans then boolean_of (get_or f (booleans_at s + p.0) 0) else absent
 
 -- the slot at a place of a table of n slots of w bytes from base on
 unfoldable pub slot_in : ℕ → List ℕ → ℕ → ℕ → Place → State ℕ
-slot_in w f base n p = if ltb p.0 n then slot_of w (word w f (base + w * p.0)) else absent
+slot_in w f base n p = when ltb p.0 n then slot_of w (word w f (base + w * p.0)) else absent
 
 unfoldable pub number_in : List ℕ → Sizes → Place → State ℕ
 number_in f s p = slot_in number_width f (numbers_at s) s.numbers p

@@ -2,7 +2,7 @@
 -- Slots are stated once, over their width of w bytes; booleans have a code of their own.
 -- Assumes nothing.
 use Rattle.std.specs.Prelude.{Bool, ◌||◌, ℕ, ◌-◌, ◌/◌, ◌^◌, eqb}
-use Rattle.base.specs.If.{if◌then◌else◌}
+use Rattle.base.specs.If.{when◌then◌else◌}
 use Rattle.entry.specs.Limits.{cancelled_byte}
 
 -- "A capability is absent, cancelled, or present": a boolean bare (Unit), a number with its value, a string with its
@@ -34,8 +34,8 @@ half w = 256 ^ w / 2
 -- what a slot of code c says
 unfoldable pub slot_of : ℕ → ℕ → State ℕ
 slot_of w c =
-    if eqb c (absent_mark w) then absent
-    else if eqb c (cancelled_mark w) then cancelled
+    when eqb c (absent_mark w) then absent
+    else when eqb c (cancelled_mark w) then cancelled
     else present c
 
 -- the code of the slot that says a state
@@ -55,8 +55,8 @@ ok_boolean c = eqb c 0 || (eqb c 1 || eqb c cancelled_byte)
 
 unfoldable pub boolean_of : ℕ → State Unit
 boolean_of c =
-    if eqb c 0 then absent
-    else if eqb c cancelled_byte then cancelled
+    when eqb c 0 then absent
+    else when eqb c cancelled_byte then cancelled
     else present tt
 
 unfoldable pub boolean_code : State Unit → ℕ

@@ -1,8 +1,9 @@
 -- The written form of an entry, and what writing gives (document 01: Compiled entry; Numbers of refusal, order of
 -- writing).
 -- Assumes nothing.
-use Rattle.std.specs.Prelude.{Bool, ◌&&◌, ◌||◌, not, List, [], ◌∷◌, ◌++◌, map, ℕ, zero, suc, ◌+◌, min, eqb, leb, length, get_or, take, drop}
-use Rattle.base.specs.If.{if◌then◌else◌}
+use Rattle.std.specs.Prelude.{Bool, ◌&&◌, ◌||◌, not, List, [], ◌∷◌, ◌++◌, map, ℕ, zero, suc, ◌+◌, min, eqb, leb}
+use Rattle.std.specs.Prelude.{length, get_or, take, drop}
+use Rattle.base.specs.If.{when◌then◌else◌}
 use Rattle.base.specs.Scan.{every}
 use Rattle.base.specs.Tabulate.{tabulate}
 use Rattle.word.specs.Word.{words}
@@ -82,7 +83,7 @@ pub record Handed : Type 0 where
 
 -- kinds: 0 absent, 1 present, 2 cancelled; a number above 2 is no kind and is refused (13)
 unfoldable pub state_of : {A : Type 0} → ℕ → A → State A
-state_of k x = if eqb k 0 then absent else if eqb k 1 then present x else cancelled
+state_of k x = when eqb k 0 then absent else when eqb k 1 then present x else cancelled
 
 abbrev pub is_kind : ℕ → Bool
 is_kind k = leb k 2
@@ -159,15 +160,15 @@ states_fit e h =
 -- "9, 8", of every call that writes: room is the buffer's length, and what is given is the file
 abbrev pub fitting : ℕ → List ℕ → Answer (List ℕ)
 fitting room f =
-    if not (leb (length f) file_most) then refused 9 []
-    else if not (leb (length f) room) then refused 8 (length f ∷ [])
+    when not (leb (length f) file_most) then refused 9 []
+    else when not (leb (length f) room) then refused 8 (length f ∷ [])
     else gives f
 
 -- "Writing: 3, 4, 7, 13, 9, 8"
 unfoldable pub writing : Edition → Handed → ℕ → Answer (List ℕ)
 writing e h room =
-    if not (enough_states e h) then refused 3 []
-    else if not (names_fit h.names) then refused 4 []
-    else if not (every (is_lent h) e.strings) then refused 7 []
-    else if not (states_fit e h) then refused 13 []
+    when not (enough_states e h) then refused 3 []
+    else when not (names_fit h.names) then refused 4 []
+    else when not (every (is_lent h) e.strings) then refused 7 []
+    else when not (states_fit e h) then refused 13 []
     else fitting room (encode (entry_of e h))

@@ -6,7 +6,7 @@ use native.Mathlib.Omega.{arith}
 use Rattle.std.proofs.Math.Dec.{ltb}
 use Rattle.std.proofs.Math.ListN.{length}
 use borrow.Author.Tests.{ltb-true, leb-true, eqb-true, eq-eqb, le-leb, not-true, not-false}
-use Rattle.base.specs.If.{if◌then◌else◌}
+use Rattle.base.specs.If.{when◌then◌else◌}
 use Rattle.base.proofs.IfLaws.{and_left, and_right, if_both, true_false}
 use Rattle.base.proofs.ScanLaws.{scan_ge}
 use Rattle.word.specs.Word.{word}
@@ -19,7 +19,8 @@ use Rattle.entry.specs.Limits.{offset_width, short_width}
 use Rattle.entry.specs.State.{State, absent, cancelled, present, map_state, half}
 use Rattle.base.specs.Answer.{Answer, refused, gives, is_given}
 use Rattle.entry.specs.Layout.{sizes_of, booleans_at, numbers_at, strings_at, table_at, size_of}
-use Rattle.entry.specs.Reading.{bytes_of, offset, ok_counts, ok_names, ok_booleans, ok_pad, ok_numbers, ok_offset, ok_strings}
+use Rattle.entry.specs.Reading.{bytes_of, offset, ok_counts, ok_names, ok_booleans, ok_pad, ok_numbers, ok_offset}
+use Rattle.entry.specs.Reading.{ok_strings}
 use Rattle.entry.specs.Reading.{bad_names, bad_boolean, bad_number, bad_string}
 use Rattle.entry.specs.Reading.{reading, names_part, slot_in, number_in, offset_in, content_at, part_in, string_in}
 use Rattle.entry_laws.specs.Sound.{NumberFits, ContentFree}
@@ -97,7 +98,7 @@ reading_lines f P l =
 
 -- an answer that is given passed the test that would have refused it
 pub test_passed : {A : Type 0} (t : Bool) (n : ℕ) (v : List ℕ) (a : Answer A) (x : A)
-    → (if not t then refused n v else a) ≡ gives x → (t ≡ true) × (a ≡ gives x)
+    → (when not t then refused n v else a) ≡ gives x → (t ≡ true) × (a ≡ gives x)
 test_passed true n v a x e = (refl, e)
 test_passed false n v a x e = absurd (let z : ◌≡◌ {A = ℕ} 0 1 = cc in (let y : ⊥ = omega arith in y))
 
@@ -184,7 +185,8 @@ module _ (f : List ℕ) (a : Accepted f) where
       (slot_in offset_width f (strings_at (sizes_of f)) (sizes_of f).strings p)
   unfolding ok_strings
   offset_fits p =
-      slots_pass offset_width (λ c. ok_offset f (sizes_of f) (offset c)) f (strings_at (sizes_of f)) (sizes_of f).strings
+      slots_pass offset_width (λ c. ok_offset f (sizes_of f) (offset c)) f (strings_at (sizes_of f)) (sizes_of
+      f).strings
       a.strings p
 
   pub names_length : length (bytes_of f (names_part (sizes_of f))) ≡ (sizes_of f).names - 1

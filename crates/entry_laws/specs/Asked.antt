@@ -2,7 +2,7 @@
 -- Assumes nothing.
 use Rattle.std.specs.Prelude.{◌≡◌, refl, Bool, true, false, ◌&&◌, List, [], ℕ}
 use Rattle.std.proofs.Common.{ap}
-use Rattle.base.specs.If.{if◌then◌else◌}
+use Rattle.base.specs.If.{when◌then◌else◌}
 use Rattle.edition.specs.declared.Edition.{Edition}
 use Rattle.edition.specs.declared.Place.{Place}
 use Rattle.edition.specs.Edition.{ok_edition, place}
@@ -54,7 +54,7 @@ unfolding asking
 map_asking g r f known a = by_test (is_given (opening r f) && known)
   where
     by_test : (t : Bool)
-        → map_answer g (if t then gives a else refused 17 []) ≡ (if t then gives (g a) else refused 17 [])
+        → map_answer g (when t then gives a else refused 17 []) ≡ (when t then gives (g a) else refused 17 [])
     by_test true = refl
     by_test false = refl
 
@@ -70,7 +70,7 @@ unfolding asking
 asking_same r f g known a b o e = rw o (by_test (is_given (opening r g)) known e)
   where
     by_test : (t k : Bool) → (k ≡ true → a ≡ b)
-        → (if t && k then gives a else refused 17 []) ≡ (if t && k then gives b else refused 17 [])
+        → (when t && k then gives a else refused 17 []) ≡ (when t && k then gives b else refused 17 [])
     by_test false k d = refl
     by_test true false d = refl
     by_test true true d = ap gives (d refl)

@@ -1,9 +1,10 @@
 -- Demands 2 and 3 for written files, over the definitions that the calls' contracts name.
 -- Assumes nothing.
-use Rattle.std.specs.Prelude.{◌≡◌, refl, Bool, true, false, ◌&&◌, not, List, [], ◌∷◌, ℕ, ◌+◌, ◌≤◌, ◌<◌, leb, length, get_or, take, drop}
+use Rattle.std.specs.Prelude.{◌≡◌, refl, Bool, true, false, ◌&&◌, not, List, [], ◌∷◌, ℕ, ◌+◌, ◌≤◌, ◌<◌, leb, length}
+use Rattle.std.specs.Prelude.{get_or, take, drop}
 use Rattle.std.proofs.Common.{sym, ap, ◌∙◌, arith, leb-true, le-leb, ltb-true, ltb-false, lt-ltb}
 use Rattle.std.proofs.Math.ListN.{get_or-eq_default}
-use Rattle.base.specs.If.{if◌then◌else◌}
+use Rattle.base.specs.If.{when◌then◌else◌}
 use Rattle.base.proofs.IfLaws.{and_left, and_right}
 use Rattle.base.specs.Scan.{every}
 use Rattle.base.proofs.ScanLaws.{every_at, every_all}
@@ -79,11 +80,11 @@ written_only_if e h room f w =
     let states : Bool
     = every (boolean_fits_at h) e.booleans
     && (every (number_fits_at h) e.numbers && every (string_fits_at h) e.strings) in
-    let a₆ : Answer (List ℕ) = if not (leb n room) then refused 8 (n ∷ []) else gives (encode (entry_of e h)) in
-    let a₅ : Answer (List ℕ) = if not (leb n file_most) then refused 9 [] else a₆ in
-    let a₄ : Answer (List ℕ) = if not states then refused 13 [] else a₅ in
-    let a₃ : Answer (List ℕ) = if not lents then refused 7 [] else a₄ in
-    let a₂ : Answer (List ℕ) = if not (names_fit h.names) then refused 4 [] else a₃ in
+    let a₆ : Answer (List ℕ) = when not (leb n room) then refused 8 (n ∷ []) else gives (encode (entry_of e h)) in
+    let a₅ : Answer (List ℕ) = when not (leb n file_most) then refused 9 [] else a₆ in
+    let a₄ : Answer (List ℕ) = when not states then refused 13 [] else a₅ in
+    let a₃ : Answer (List ℕ) = when not lents then refused 7 [] else a₄ in
+    let a₂ : Answer (List ℕ) = when not (names_fit h.names) then refused 4 [] else a₃ in
     let p₁ = test_passed (enough_states e h) 3 [] a₂ f w in
     let p₂ = test_passed (names_fit h.names) 4 [] a₃ f p₁.1 in
     let p₃ = test_passed lents 7 [] a₄ f p₂.1 in
@@ -204,7 +205,8 @@ pub record SameAnswers (r : Edition) (f g : List ℕ) : Type 0 where
   pub booleans : (p : Place) → asking_boolean r f p ≡ asking_boolean r g p
   pub numbers : (p : Place) → asking_number r f p ≡ asking_number r g p
   pub strings : (p : Place)
-      → map_answer (map_state (bytes_of f)) (asking_string r f p) ≡ map_answer (map_state (bytes_of g)) (asking_string r g p)
+      → map_answer (map_state (bytes_of f)) (asking_string r f p)
+      ≡ map_answer (map_state (bytes_of g)) (asking_string r g p)
 
 -- files of which opening says the same are opened alike
 same_given : {A : Type 0} (h : Opening → A) (a b : Answer Opening) → map_answer h a ≡ map_answer h b

@@ -9,7 +9,7 @@ use Rattle.std.proofs.Math.Dec.{eqb, leb}
 use Rattle.std.proofs.Math.ListN.{get_or}
 use Rattle.std.proofs.Common.{length-take, length-drop}
 use borrow.Author.Tests.{leb-true, eqb-true, eq-eqb, le-leb}
-use Rattle.base.specs.If.{if◌then◌else◌}
+use Rattle.base.specs.If.{when◌then◌else◌}
 use Rattle.base.proofs.IfLaws.{and_left, and_right}
 use Rattle.base.proofs.TabulateLaws.{length_tabulate}
 use Rattle.word.specs.Nul.{NoNul}
@@ -28,7 +28,7 @@ pub state_has : {A : Type 0} (P : State A → Type 0) (k : ℕ) (x : A) → P ab
 unfolding state_of
 state_has P k x a c p = by_tests (eqb k 0) (eqb k 1) refl
   where
-    by_tests : (s t : Bool) → eqb k 1 ≡ t → P (if s then absent else if t then present x else cancelled)
+    by_tests : (s t : Bool) → eqb k 1 ≡ t → P (when s then absent else when t then present x else cancelled)
     by_tests true t e = a
     by_tests false true e = p (eqb-true k 1 e)
     by_tests false false e = c

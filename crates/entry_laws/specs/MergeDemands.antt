@@ -4,7 +4,7 @@
 -- Assumes nothing.
 use Rattle.std.specs.Prelude.{◌≡◌, refl, Bool, true, false, not, List, [], ◌∷◌, ◌⊎◌, ℕ, ◌≤◌, leb, length}
 use Rattle.std.proofs.Common.{sym, ap, ◌∙◌, inl, inr, arith, leb-true, le-leb, ltb-true}
-use Rattle.base.specs.If.{if◌then◌else◌}
+use Rattle.base.specs.If.{when◌then◌else◌}
 use Rattle.edition.specs.declared.Edition.{Edition}
 use Rattle.edition.specs.Edition.{ok_edition, place, NoMore}
 use Rattle.entry.specs.Limits.{file_most}
@@ -30,7 +30,7 @@ pub record MergeMeets (e : Edition) (a b : List ℕ) : Type 0 where
 -- the answer of a merge that meets this, by the room
 by_room : (e : Edition) (a b : List ℕ) (room : ℕ) → MergeMeets e a b
     → merging e a b room
-    ≡ (if not (leb (length (encode (merged e a b))) room) then refused 8 (length (encode (merged e a b)) ∷ [])
+    ≡ (when not (leb (length (encode (merged e a b))) room) then refused 8 (length (encode (merged e a b)) ∷ [])
     else gives (encode (merged e a b)))
 unfolding merging
 by_room e a b room m =
@@ -51,8 +51,8 @@ pub merged_only_if : (e : Edition) (a b : List ℕ) (room : ℕ) (f : List ℕ) 
 unfolding merging
 merged_only_if e a b room f w =
     let n : ℕ = length (encode (merged e a b)) in
-    let a₅ : Answer (List ℕ) = if not (leb n room) then refused 8 (n ∷ []) else gives (encode (merged e a b)) in
-    let a₄ : Answer (List ℕ) = if not (leb n file_most) then refused 9 [] else a₅ in
+    let a₅ : Answer (List ℕ) = when not (leb n room) then refused 8 (n ∷ []) else gives (encode (merged e a b)) in
+    let a₄ : Answer (List ℕ) = when not (leb n file_most) then refused 9 [] else a₅ in
     let a₃ : Answer (List ℕ) = and_then (of_file 2 (reading b)) a₄ in
     let p₁ = test_passed (ok_edition e) 3 [] (and_then (of_file 1 (reading a)) a₃) f w in
     let p₂ = and_then_gives (of_file 1 (reading a)) a₃ f p₁.1 in
@@ -122,7 +122,7 @@ own_merge e r a b room own f k w =
     } in
     rw (by_room r a b own n) (by_test (leb (length (encode (merged r a b))) own) (encode (merged r a b)))
   where
-    by_test : (t : Bool) (x : List ℕ) → (number_of (if not t then refused 8 (length x ∷ []) else gives x) ≡ 0)
-        ⊎ (number_of (if not t then refused 8 (length x ∷ []) else gives x) ≡ 8)
+    by_test : (t : Bool) (x : List ℕ) → (number_of (when not t then refused 8 (length x ∷ []) else gives x) ≡ 0)
+        ⊎ (number_of (when not t then refused 8 (length x ∷ []) else gives x) ≡ 8)
     by_test true x = inl refl
     by_test false x = inr refl

@@ -18,7 +18,8 @@ part_free : (f : List ℕ) (a k : ℕ) → ((j : ℕ) → a ≤ j → j < a + k 
 part_free f a k h =
     each_of (λ b. b ≡ 0 → ⊥) (take k (drop a f)) 0 (λ i l z.
     let m : i < k = (let q = rw length-take at l in omega arith) in
-    let g : get_or (take k (drop a f)) i 0 ≡ get_or f (a + i) 0 = get_or-take k (drop a f) i 0 m ∙ get_or-drop a f i 0 in
+    let g : get_or (take k (drop a f)) i 0
+    ≡ get_or f (a + i) 0 = get_or-take k (drop a f) i 0 m ∙ get_or-drop a f i 0 in
     no_nul_at f (a + i) (h (a + i) (omega arith) (omega arith)) (sym g ∙ z))
 
 -- the bytes before the first NUL

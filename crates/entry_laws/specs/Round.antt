@@ -24,12 +24,14 @@ use Rattle.edition.specs.Edition.{place}
 use Rattle.entry.specs.declared.Sizes.{Sizes}
 use Rattle.entry.specs.declared.Offset.{Offset}
 use Rattle.entry.specs.declared.Part.{Part}
-use Rattle.entry.specs.Limits.{magic, header_size, file_most, short_most, names_least, names_most, number_most, number_width}
+use Rattle.entry.specs.Limits.{magic, header_size, file_most, short_most, names_least, names_most, number_most}
+use Rattle.entry.specs.Limits.{number_width}
 use Rattle.entry.specs.Limits.{short_width}
 use Rattle.entry.specs.State.{State, absent, cancelled, present, map_state, half, ok_slot, ok_boolean, boolean_code}
 use Rattle.base.specs.Answer.{gives}
 use Rattle.entry.specs.Layout.{sizes_of, booleans_at, pad_of, numbers_at, strings_at, table_at, size_of}
-use Rattle.entry.specs.Reading.{Entry, bytes_of, offset, ok_counts, ok_names, ok_booleans, ok_pad, ok_numbers, ok_offset}
+use Rattle.entry.specs.Reading.{Entry, bytes_of, offset, ok_counts, ok_names, ok_booleans, ok_pad, ok_numbers}
+use Rattle.entry.specs.Reading.{ok_offset}
 use Rattle.entry.specs.Reading.{ok_strings, reading, names_part, boolean_in, number_in, offset_in, content_at, part_in}
 use Rattle.entry.specs.Reading.{string_in, held_boolean, held_number, held_string}
 use Rattle.entry.specs.Writing.{offsets, string_table, sizes_for, header, padding, encode}
@@ -360,7 +362,8 @@ module _ (x : Entry) (ok : Sound x) where
       every (λ i. ok_slot short_width (λ c. ok_offset (encode x) (sizes_for x) (offset c))
       (word short_width (encode x) (strings_at (sizes_for x) + short_width * i))) n ≡ true)
       (length_offsets (offset 0) x.strings)
-      (slots_ok 2 offset_of (lit< tt) slots absent (encode x) (before_strings x) (table_part x) (strings_at (sizes_for x))
+      (slots_ok 2 offset_of (lit< tt) slots absent (encode x) (before_strings x) (table_part x) (strings_at
+      (sizes_for x))
       (at_strings x) (starts_strings x) slots_below
       (λ c. ok_offset (encode x) (sizes_for x) (offset c))
       (offset_passes (encode x) (sizes_for x) (length_encode x) x.strings (before_table x) (offset 0)

@@ -1,12 +1,13 @@
 -- Laws of slots, once over their width, and of boolean bytes.
 -- Assumes nothing.
-use Rattle.std.specs.Prelude.{◌≡◌, refl, Bool, true, false, ◌||◌, List, [], ◌∷◌, ◌++◌, map, ℕ, zero, suc, ◌+◌, ◌*◌, ◌^◌, ◌≤◌, ◌<◌, eqb, length, get_or}
+use Rattle.std.specs.Prelude.{◌≡◌, refl, Bool, true, false, ◌||◌, List, [], ◌∷◌, ◌++◌, map, ℕ, zero, suc, ◌+◌, ◌*◌}
+use Rattle.std.specs.Prelude.{◌^◌, ◌≤◌, ◌<◌, eqb, length, get_or}
 use Rattle.std.proofs.Common.{sym, ◌∙◌, pow-suc, not-suc-le-zero, arith, lit<, eq-eqb, ne_eqb, lt-ltb, le-ltb}
 use Rattle.std.proofs.Math.Bool.{or-true}
 use Rattle.std.proofs.Math.Nat.{one-le-pow}
 use Rattle.std.proofs.lemmas.List.{length-map}
 use Rattle.std.proofs.Math.ListN.{get_or-map, get_or-eq_default}
-use Rattle.base.specs.If.{if◌then◌else◌}
+use Rattle.base.specs.If.{when◌then◌else◌}
 use Rattle.base.proofs.IfLaws.{true_false, below_or}
 use Rattle.base.specs.Scan.{every}
 use Rattle.base.proofs.ScanLaws.{every_at, every_all}
@@ -67,7 +68,7 @@ unfolding slot_of ok_slot
 slot_passes w ok c h = by_tests (ok c) (eqb c (absent_mark w)) (eqb c (cancelled_mark w)) refl h
   where
     by_tests : (t a b : Bool) → ok c ≡ t → (t || (a || b)) ≡ true
-        → Passes ok (if a then absent else if b then cancelled else present c)
+        → Passes ok (when a then absent else when b then cancelled else present c)
     by_tests t true b e k = tt
     by_tests t false true e k = tt
     by_tests true false false e k = e

@@ -8,7 +8,7 @@ use native.Mathlib.Omega.{arith}
 use lib.Dec.{eqb}
 use lib.ListN.{get_or}
 use borrow.Author.Tests.{eqb-true, eqb-false}
-use Rattle.base.specs.If.{if◌then◌else◌}
+use Rattle.base.specs.If.{when◌then◌else◌}
 use Rattle.base.proofs.IfLaws.{true_false, and_left, and_right, or_left, or_right, if_true, if_false}
 use Rattle.base.proofs.IfLaws.{if_both, eqb_refl}
 use Rattle.edition.specs.declared.Edition.{Edition}
@@ -91,7 +91,7 @@ pub asked_given : {A : Type 0} (f : List ℕ) (n : EntryNumbers) (x : Answer A) 
 unfolding asked
 asked_given f n x y q = by_test (same n (opened n.edition f)) q
   where
-    by_test : (t : Bool) → gives y ≡ (if t then x else refused 17 []) → gives y ≡ x
+    by_test : (t : Bool) → gives y ≡ (when t then x else refused 17 []) → gives y ≡ x
     by_test true p = p
     by_test false p = true_false (ap is_given p)
 
@@ -163,20 +163,20 @@ module _ {A : Type 0} (e : Edition) (f : List ℕ) (known : Edition → Bool) (x
   opened_asked = by_answer (opening e f) refl
     where
       refused_again : (k : ℕ) (v : List ℕ) (b : Answer Opening) (N : EntryNumbers) (E : Edition) → (k ≡ 0 → ⊥) → N.refusal ≡ k → b ≡ opening E f
-          → (if same N (numbers_of E b) then asking E f (known E) (x E) else refused 17 []) ≡ refused 17 []
+          → (when same N (numbers_of E b) then asking E f (known E) (x E) else refused 17 []) ≡ refused 17 []
       refused_again k v (refused j w) N E z r q = by_test (same N (numbers_of E (refused j w)))
         where
-          by_test : (t : Bool) → (if t then asking E f (known E) (x E) else refused 17 []) ≡ refused 17 []
+          by_test : (t : Bool) → (when t then asking E f (known E) (x E) else refused 17 []) ≡ refused 17 []
           by_test true = sym (unopened E j w q)
           by_test false = refl
       refused_again k v (gives o) N E z r q = by_test (same N (numbers_of E (gives o))) refl
         where
-          by_test : (t : Bool) → same N (numbers_of E (gives o)) ≡ t → (if t then asking E f (known E) (x E) else refused 17 []) ≡ refused 17 []
+          by_test : (t : Bool) → same N (numbers_of E (gives o)) ≡ t → (when t then asking E f (known E) (x E) else refused 17 []) ≡ refused 17 []
           by_test true h = absurd (z (sym r ∙ ap (λ (m : EntryNumbers). m.refusal) (same_is N (numbers_of E (gives o)) h)))
           by_test false h = refl
 
       by_answer : (a : Answer Opening) → a ≡ opening e f
-          → (if same (numbers_of e a) (opened (numbers_of e a).edition f) then asking (numbers_of e a).edition f (known (numbers_of e a).edition) (x (numbers_of e a).edition) else refused 17 []) ≡ asking e f (known e) (x e)
+          → (when same (numbers_of e a) (opened (numbers_of e a).edition f) then asking (numbers_of e a).edition f (known (numbers_of e a).edition) (x (numbers_of e a).edition) else refused 17 []) ≡ asking e f (known e) (x e)
       by_answer (gives o) q = sym (if_true (same (numbers_of e (gives o)) (opened e f)) (asking e f (known e) (x e)) (refused 17 []) (ap (λ (b : Answer Opening). same (numbers_of e (gives o)) (numbers_of e b)) (sym q) ∙ same_refl (numbers_of e (gives o))))
       by_answer (refused k v) q = refused_again k v (opening (numbers_of e (refused k v)).edition f) (numbers_of e (refused k v)) (numbers_of e (refused k v)).edition (is-numbered k v (opening e f) q (opening_numbered e f)) refl refl ∙ unopened e k v q
         where
@@ -215,7 +215,7 @@ module _ (e : Edition) (f : List ℕ) (k : ℕ) (v : List ℕ) where
   from_read (refused j w) p q = from_own f N (ap (numbers_of N.edition) (q ∙ ap (map_answer (opening_of N.edition)) p))
   from_read (gives s) p q = true_false (sym (ap is_given q))
 
-  from_refused : (t : Bool) → refused k v ≡ (if not t then refused 3 [] else map_answer (opening_of e) (reading f)) → from_opening f N ≡ true
+  from_refused : (t : Bool) → refused k v ≡ (when not t then refused 3 [] else map_answer (opening_of e) (reading f)) → from_opening f N ≡ true
   unfolding from_opening
   from_refused true q = from_read (reading f) refl q
   from_refused false q =
@@ -284,7 +284,7 @@ module _ (e : Edition) (f : List ℕ) (k : ℕ) (v : List ℕ) (q : opening e f 
     where
       by_tests : (t u : Bool) → same M (opened M.edition f) ≡ t
           → same M (numbers_of M.edition (refused 3 [])) ≡ u → (t || u) ≡ true
-          → (if t then refusal_of (opening M.edition f) else if u then refused 3 [] else refused 17 [])
+          → (when t then refusal_of (opening M.edition f) else when u then refused 3 [] else refused 17 [])
           ≡ refused k v
       by_tests true u h g o = again (opening M.edition f) refl (same_is M (opened M.edition f) h)
       by_tests false true h g o = large (same_is M (numbers_of M.edition (refused 3 [])) g)
@@ -306,7 +306,7 @@ refusal_17 f n h =
     by_tests (same n (opened n.edition f)) (same n (numbers_of n.edition (refused 3 []))) h
   where
     by_tests : (t u : Bool) → (t || u) ≡ false
-        → (if t then refusal_of (opening n.edition f) else if u then refused 3 [] else refused 17 []) ≡ refused 17 []
+        → (when t then refusal_of (opening n.edition f) else when u then refused 3 [] else refused 17 []) ≡ refused 17 []
     by_tests true u q = true_false q
     by_tests false true q = true_false q
     by_tests false false q = refl

@@ -2,7 +2,7 @@
 -- entry).
 -- Assumes nothing.
 use Rattle.std.specs.Prelude.{Bool, true, ◌&&◌, ◌||◌, List, [], ℕ, eqb, get_or}
-use Rattle.base.specs.If.{if◌then◌else◌}
+use Rattle.base.specs.If.{when◌then◌else◌}
 use Rattle.edition.specs.declared.Edition.{Edition}
 use Rattle.edition.specs.declared.Place.{Place}
 use Rattle.entry.specs.declared.Tables.{Tables}
@@ -79,8 +79,8 @@ refusal_of (gives x) = gives tt
 -- what opening said of the file; 17, "entry not from opening"
 unfoldable pub entry_refusal : List ℕ → EntryNumbers → Answer (Unit {0})
 entry_refusal f n =
-    if same n (opened n.edition f) then refusal_of (opening n.edition f)
-    else if same n (numbers_of n.edition (refused 3 [])) then refused 3 []
+    when same n (opened n.edition f) then refusal_of (opening n.edition f)
+    else when same n (numbers_of n.edition (refused 3 [])) then refused 3 []
     else refused 17 []
 
 abbrev pub says_refusal : EntryRefusal → Answer (Unit {0})
@@ -90,7 +90,7 @@ says_refusal E.NotOpened = refused 17 []
 
 -- "If callers can make an entry without opening, one that opening wouldn't give for its bytes is answered 17 too"
 unfoldable pub asked : {A : Type 0} → List ℕ → EntryNumbers → Answer A → Answer A
-asked f n a = if same n (opened n.edition f) then a else refused 17 []
+asked f n a = when same n (opened n.edition f) then a else refused 17 []
 
 abbrev pub entry_names : List ℕ → EntryNumbers → Answer Part
 entry_names f n = asked f n (asking_names n.edition f)

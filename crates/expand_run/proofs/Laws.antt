@@ -13,7 +13,7 @@ use mir.Syntax.{w32}
 use mir.Val.{to_z}
 use borrow.Author.Tests.{lt-ltb, le-ltb}
 use Rattle.base.proofs.IfLaws.{below_or}
-use Rattle.base.specs.If.{if◌then◌else◌}
+use Rattle.base.specs.If.{when◌then◌else◌}
 use Rattle.base.specs.Overwrite.{put_at}
 use Rattle.base.proofs.OverwriteLaws.{put_nil, put_put}
 use Rattle.expansion.specs.declared.Base.{Base}

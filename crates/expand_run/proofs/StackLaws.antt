@@ -11,7 +11,7 @@ use lib.ListN.{length, get_or, set, take, drop}
 use lib.Seq.{get_or-set_same, get_or-set_other}
 use borrow.Author.Tests.{lt-ltb, le-ltb}
 use Rattle.expansion.specs.declared.Item.{Item}
-use Rattle.base.specs.If.{if◌then◌else◌}
+use Rattle.base.specs.If.{when◌then◌else◌}
 use Rattle.expansion.specs.Values.{Value, no_value, is_text}
 use Rattle.expansion.specs.Machine.{Machine, empty, mismatched, arity, pops_text, other_kind, effect, performed, taking}
 use Rattle.variables.specs.Machines.{machine}
@@ -72,7 +72,7 @@ over st d x y z = machine (top_down no_value st d) x y z
 
 -- a value is of the other kind than an item takes
 abbrev pub other : Item → Value → Bool
-other k v = if pops_text k then not (is_text v) else is_text v
+other k v = when pops_text k then not (is_text v) else is_text v
 
 -- d' elements are left of d where an item's values are popped: b, and a below it, both of the kind that it takes
 pub record Popped (k : Item) (st : List Value) (d d' : ℕ) (a b : Value) : Type 0 where

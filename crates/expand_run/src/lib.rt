@@ -2,6 +2,8 @@
 // of expansion/specs gives, in at most as many steps as the string has bytes, with at most 25 times as many bytes of
 // output and a text for each `%s`. Assumed: nothing. The nine arguments come by value, and stand beside the stack:
 // what touches either is a step of the run itself, and an item's own function sees numbers only.
+#![tactic(auto)]
+
 ghost use Rattle.std.specs.Prelude.{◌≡◌, ◌≤◌, length};
 ghost use Rattle.expansion.specs.Limits.{string_most};
 ghost use Rattle.expansion.specs.declared.Form.TheVariants.{Right};

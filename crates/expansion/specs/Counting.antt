@@ -2,7 +2,7 @@
 -- 2026-07). The items of a string follow one another from its first byte on.
 -- Assumes nothing.
 use Rattle.std.specs.Prelude.{Bool, true, false, List, ℕ, zero, suc, ◌+◌, ◌*◌, ltb, length}
-use Rattle.base.specs.If.{if◌then◌else◌}
+use Rattle.base.specs.If.{when◌then◌else◌}
 use Rattle.expansion.specs.Limits.{room_for, text_most}
 use Rattle.expansion.specs.declared.Item.{Item}
 use Rattle.expansion.specs.declared.Item.TheVariants as I
@@ -14,7 +14,7 @@ unfoldable pub count_from : (Item → Bool) → ℕ → List ℕ → ℕ → ℕ
 count_from ok zero s i = 0
 count_from ok (suc k) s i =
     elim (ltb i (length s)) [
-      | true ↦ (if ok (item_at s i).item then 1 else 0) + count_from ok k s (item_at s i).next
+      | true ↦ (when ok (item_at s i).item then 1 else 0) + count_from ok k s (item_at s i).next
       | false ↦ 0
     ]
 

@@ -2,7 +2,7 @@
 -- says.
 -- Assumes nothing.
 use Rattle.std.specs.Prelude.{not, List, [], ◌∷◌, ℕ, ◌-◌, ◌≤◌, ◌<◌, leb, ℤ, length}
-use Rattle.base.specs.If.{if◌then◌else◌}
+use Rattle.base.specs.If.{when◌then◌else◌}
 use Rattle.base.specs.Overwrite.{put_at}
 use Rattle.base.specs.Answer.{Answer, refused, gives}
 use Rattle.expansion.specs.Limits.{string_most}
@@ -27,7 +27,7 @@ pub record Expanding : Type 0 where
 unfoldable pub ended : Outcome → ℕ → Answer Expanding
 ended (failed n i) room = refused n (i ∷ [])
 ended (finished m out n) room =
-    if not (leb (length out) room) then refused 8 (length out ∷ [])
+    when not (leb (length out) room) then refused 8 (length out ∷ [])
     else gives (record { output = out; steps = n; lasting = m.lasting })
 
 -- "14 over the whole string with the place of the first wrong item"
@@ -40,10 +40,10 @@ formed F.Right a = a
 -- length". The texts of the arguments lie in lent, and output goes from place at on into a buffer of size bytes
 unfoldable pub expanding : List ℕ → List Argument → List ℕ → List ℤ → ℕ → ℕ → Answer Expanding
 expanding s arguments lent lasting size at =
-    if not (leb at size) then refused 17 []
-    else if not (each_passes (lies_in lent) arguments) then refused 17 []
-    else if not (leb (length s) string_most) then refused 1 []
-    else if not (each_passes is_short arguments) then refused 1 []
+    when not (leb at size) then refused 17 []
+    else when not (each_passes (lies_in lent) arguments) then refused 17 []
+    else when not (leb (length s) string_most) then refused 1 []
+    else when not (each_passes is_short arguments) then refused 1 []
     else formed (form_of s) (ended (run s (values_of lent arguments) lasting) (size - at))
 
 -- "bytes before it and after the output stay"; a refusal changes nothing

@@ -2,7 +2,7 @@
 -- 14).
 -- Assumes nothing.
 use Rattle.std.specs.Prelude.{true, false, List, [], ◌∷◌, ℕ, zero, suc, ltb, length}
-use Rattle.base.specs.If.{if◌then◌else◌}
+use Rattle.base.specs.If.{when◌then◌else◌}
 use Rattle.expansion.specs.Limits.{nest_most}
 use Rattle.expansion.specs.declared.Item.{Item}
 use Rattle.expansion.specs.declared.Item.TheVariants as I
@@ -50,7 +50,7 @@ pub data Nesting : Type 0 where
   misplaced : Nesting
 
 unfoldable pub after_if : List Level → Nesting
-after_if ls = if ltb (length ls) nest_most then levels (condition ∷ ls) else misplaced
+after_if ls = when ltb (length ls) nest_most then levels (condition ∷ ls) else misplaced
 
 -- `%t` ends a condition
 unfoldable pub after_then : List Level → Nesting

@@ -1,9 +1,10 @@
 -- The items of a parameterized string (document 01: Expansion). A place past the string's end reads as NUL, which no
 -- item holds. A character stands for its byte: `code` gives it.
 -- Assumes nothing.
-use Rattle.std.specs.Prelude.{Bool, true, false, ◌&&◌, ◌||◌, not, List, [], ◌∷◌, ℕ, ◌+◌, ◌-◌, ◌*◌, eqb, leb, pos, length, get_or, take, drop}
+use Rattle.std.specs.Prelude.{Bool, true, false, ◌&&◌, ◌||◌, not, List, [], ◌∷◌, ℕ, ◌+◌, ◌-◌, ◌*◌, eqb, leb, pos}
+use Rattle.std.specs.Prelude.{length, get_or, take, drop}
 use Prim.Native.Char.{code}
-use Rattle.base.specs.If.{if◌then◌else◌}
+use Rattle.base.specs.If.{when◌then◌else◌}
 use Rattle.base.specs.Scan.{scan}
 use Rattle.expansion.specs.Limits.{constant_most}
 use Rattle.expansion.specs.declared.Item.{Item}
@@ -55,20 +56,20 @@ singles =
 
 unfoldable pub found : List (ℕ × Item) → ℕ → Item
 found [] c = Wrong
-found (p ∷ ps) c = if eqb c p.0 then p.1 else found ps c
+found (p ∷ ps) c = when eqb c p.0 then p.1 else found ps c
 
 -- ---- longer items; j is the place of the byte after `%`
 
 -- `%p1` to `%p9`
 unfoldable pub argument_at : List ℕ → ℕ → Lexed
 argument_at s j =
-    if is_nonzero (byte_at s (j + 1)) then lexed (Argument (byte_at s (j + 1) - code "1")) (j + 2) else wrong j
+    when is_nonzero (byte_at s (j + 1)) then lexed (Argument (byte_at s (j + 1) - code "1")) (j + 2) else wrong j
 
 -- `%'b'` (any byte but NUL)
 unfoldable pub quoted_at : List ℕ → ℕ → Lexed
 quoted_at s j =
     let b : ℕ = byte_at s (j + 1) in
-    if not (eqb b 0) && eqb (byte_at s (j + 2)) (code "'") then lexed (Constant (pos b)) (j + 3) else wrong j
+    when not (eqb b 0) && eqb (byte_at s (j + 2)) (code "'") then lexed (Constant (pos b)) (j + 3) else wrong j
 
 -- the value of digits, highest first, behind digits of value v
 unfoldable pub decimal : ℕ → List ℕ → ℕ
@@ -85,22 +86,23 @@ braced_at s j =
     let e : ℕ = digits_end s (j + 1) in
     let v : ℕ = decimal 0 (take (e - (j + 1)) (drop (j + 1) s)) in
     let closed : Bool = eqb (byte_at s e) (code "}") in
-    if is_digit (byte_at s (j + 1)) && (closed && leb v constant_most) then lexed (Constant (pos v)) (e + 1) else wrong j
+    when is_digit (byte_at s (j + 1)) && (closed && leb v constant_most) then lexed (Constant (pos v)) (e + 1)
+    else wrong j
 
 -- `%P` and `%g` with a letter
 unfoldable pub store_at : List ℕ → ℕ → Lexed
-store_at s j = if is_letter (byte_at s (j + 1)) then lexed (Store (byte_at s (j + 1))) (j + 2) else wrong j
+store_at s j = when is_letter (byte_at s (j + 1)) then lexed (Store (byte_at s (j + 1))) (j + 2) else wrong j
 
 unfoldable pub load_at : List ℕ → ℕ → Lexed
-load_at s j = if is_letter (byte_at s (j + 1)) then lexed (Load (byte_at s (j + 1))) (j + 2) else wrong j
+load_at s j = when is_letter (byte_at s (j + 1)) then lexed (Load (byte_at s (j + 1))) (j + 2) else wrong j
 
 -- the letter of a number's format at k, whose fill and width stand before it
 unfoldable pub format_at : List ℕ → ℕ → Bool → ℕ → Lexed
 format_at s k zero width =
-    if eqb (byte_at s k) (code "d") then lexed (Number Decimal zero width) (k + 1)
-    else if eqb (byte_at s k) (code "o") then lexed (Number Octal zero width) (k + 1)
-    else if eqb (byte_at s k) (code "x") then lexed (Number SmallHex zero width) (k + 1)
-    else if eqb (byte_at s k) (code "X") then lexed (Number CapitalHex zero width) (k + 1)
+    when eqb (byte_at s k) (code "d") then lexed (Number Decimal zero width) (k + 1)
+    else when eqb (byte_at s k) (code "o") then lexed (Number Octal zero width) (k + 1)
+    else when eqb (byte_at s k) (code "x") then lexed (Number SmallHex zero width) (k + 1)
+    else when eqb (byte_at s k) (code "X") then lexed (Number CapitalHex zero width) (k + 1)
     else wrong k
 
 -- a width at k: "one or two digits whose first is 1 to 9"
@@ -108,25 +110,25 @@ unfoldable pub width_at : List ℕ → ℕ → Bool → Lexed
 width_at s k zero =
     let first : ℕ = byte_at s k - code "0" in
     let second : ℕ = byte_at s (k + 1) - code "0" in
-    if not (is_nonzero (byte_at s k)) then wrong k
-    else if is_digit (byte_at s (k + 1)) then format_at s (k + 2) zero (first * 10 + second)
+    when not (is_nonzero (byte_at s k)) then wrong k
+    else when is_digit (byte_at s (k + 1)) then format_at s (k + 2) zero (first * 10 + second)
     else format_at s (k + 1) zero first
 
 -- the item whose second byte is at j; "0 needs a width"
 unfoldable pub percent_at : List ℕ → ℕ → Lexed
 percent_at s j =
-    if eqb (byte_at s j) (code "p") then argument_at s j
-    else if eqb (byte_at s j) (code "'") then quoted_at s j
-    else if eqb (byte_at s j) (code "{") then braced_at s j
-    else if eqb (byte_at s j) (code "P") then store_at s j
-    else if eqb (byte_at s j) (code "g") then load_at s j
-    else if eqb (byte_at s j) (code "0") then width_at s (j + 1) true
-    else if is_nonzero (byte_at s j) then width_at s j false
+    when eqb (byte_at s j) (code "p") then argument_at s j
+    else when eqb (byte_at s j) (code "'") then quoted_at s j
+    else when eqb (byte_at s j) (code "{") then braced_at s j
+    else when eqb (byte_at s j) (code "P") then store_at s j
+    else when eqb (byte_at s j) (code "g") then load_at s j
+    else when eqb (byte_at s j) (code "0") then width_at s (j + 1) true
+    else when is_nonzero (byte_at s j) then width_at s j false
     else lexed (found singles (byte_at s j)) (j + 1)
 
 -- the item that starts at i: "a byte other than `%` and NUL", or `%` and what follows
 unfoldable pub item_at : List ℕ → ℕ → Lexed
 item_at s i =
-    if eqb (byte_at s i) 0 then wrong (i + 1)
-    else if eqb (byte_at s i) (code "%") then percent_at s (i + 1)
+    when eqb (byte_at s i) 0 then wrong (i + 1)
+    else when eqb (byte_at s i) (code "%") then percent_at s (i + 1)
     else lexed (Byte (byte_at s i)) (i + 1)

@@ -1,12 +1,13 @@
 -- The machine that expands a well formed string (document 01: Expansion).
 -- Assumes nothing.
-use Rattle.std.specs.Prelude.{Bool, true, false, ◌&&◌, ◌||◌, not, List, [], ◌∷◌, ◌++◌, ℕ, zero, suc, ◌+◌, ◌-◌, ◌^◌, eqb, leb, ltb, ℤ, pos, negsuc, length, get_or, set, take, drop, replicate}
+use Rattle.std.specs.Prelude.{Bool, true, false, ◌&&◌, ◌||◌, not, List, [], ◌∷◌, ◌++◌, ℕ, zero, suc, ◌+◌, ◌-◌, ◌^◌}
+use Rattle.std.specs.Prelude.{eqb, leb, ltb, ℤ, pos, negsuc, length, get_or, set, take, drop, replicate}
 use Prim.Native.Char.{code}
 use Rattle.std.specs.Int.Bits.{bit_and, bit_or, bit_xor}
 use Rattle.std.specs.Int.Signed.{lt_z}
 use Rattle.std.specs.Int.{w32}
 use Rattle.std.proofs.Common.{of_z, to_z}
-use Rattle.base.specs.If.{if◌then◌else◌}
+use Rattle.base.specs.If.{when◌then◌else◌}
 use Rattle.signed.specs.Signed.{is_zero, add, subtract, multiply, divide, remainder}
 use Rattle.characters.specs.Character.{character}
 use Rattle.expansion.specs.Limits.{stack_most}
@@ -70,11 +71,11 @@ inverted v = to_z w32 (2 ^ 32 - 1 - of_z w32 v)
 -- capital letters are the lasting variables
 unfoldable pub loaded : Machine → ℕ → ℤ
 loaded m c =
-    if leb c (code "Z") then get_or m.lasting (c - code "A") (pos 0) else get_or m.locals (c - code "a") (pos 0)
+    when leb c (code "Z") then get_or m.lasting (c - code "A") (pos 0) else get_or m.locals (c - code "a") (pos 0)
 
 unfoldable pub stored : Machine → ℕ → ℤ → Machine
 stored m c v =
-    if leb c (code "Z") then record {
+    when leb c (code "Z") then record {
       stack = m.stack;
       arguments = m.arguments;
       locals = m.locals;
@@ -143,7 +144,7 @@ pops_text I.Wrong = false
 -- "`%s` or `%l` pops a number, or any other item pops a text": one of the popped values is of the other kind
 unfoldable pub other_kind : Item → List Value → Bool
 other_kind k [] = false
-other_kind k (v ∷ vs) = (if pops_text k then not (is_text v) else is_text v) || other_kind k vs
+other_kind k (v ∷ vs) = (when pops_text k then not (is_text v) else is_text v) || other_kind k vs
 
 -- what an item does once its values are popped
 pub data Effect : Type 0 where
@@ -179,7 +180,7 @@ effect I.Not m a b = pushes (number (truth (is_zero (number_in b))))
 effect I.Invert m a b = pushes (number (inverted (number_in b)))
 effect I.Increment m a b = increments
 effect I.If m a b = prints []
-effect I.Then m a b = if is_zero (number_in b) then to_else else prints []
+effect I.Then m a b = when is_zero (number_in b) then to_else else prints []
 effect I.Else m a b = to_end
 effect I.End m a b = prints []
 effect I.Wrong m a b = prints []
@@ -202,7 +203,7 @@ with_arguments m xs = record { stack = m.stack; arguments = xs; locals = m.local
 
 unfoldable pub performed : Effect → Machine → Taken
 performed (prints bytes) m = goes_on m bytes
-performed (pushes v) m = if ltb (length m.stack) stack_most then goes_on (with_stack m (v ∷ m.stack)) [] else full
+performed (pushes v) m = when ltb (length m.stack) stack_most then goes_on (with_stack m (v ∷ m.stack)) [] else full
 performed (stores c v) m = goes_on (stored m c v) []
 performed increments m = goes_on (with_arguments m (incremented m.arguments)) []
 performed to_else m = goes_to_else m
@@ -213,8 +214,8 @@ unfoldable pub taking : Item → Machine → Taken
 taking k m =
     let a : Value = get_or m.stack 1 no_value in
     let b : Value = get_or m.stack 0 no_value in
-    if ltb (length m.stack) (arity k) then empty
-    else if other_kind k (take (arity k) m.stack) then mismatched
+    when ltb (length m.stack) (arity k) then empty
+    else when other_kind k (take (arity k) m.stack) then mismatched
     else performed (effect k m a b) (with_stack m (drop (arity k) m.stack))
 
 -- ---- passing over items
@@ -229,7 +230,7 @@ unfoldable pub passing : Bool → Class → ℕ → Passing
 passing elses C.Plain d = opens d
 passing elses C.If d = opens (suc d)
 passing elses C.Then d = opens d
-passing elses C.Else zero = if elses then stops else opens zero
+passing elses C.Else zero = when elses then stops else opens zero
 passing elses C.Else (suc d) = opens (suc d)
 passing elses C.End zero = stops
 passing elses C.End (suc d) = opens d

@@ -1,16 +1,17 @@
 -- Printed numbers (document 01: Expansion): "Octal and hex print the value mod 2^32, `%x` with small letters, `%X`
 -- with capitals. Blank fill stands left; zero fill after the sign." A character stands for its byte: `code` gives it.
 -- Assumes nothing.
-use Rattle.std.specs.Prelude.{Bool, true, false, List, [], ◌∷◌, ◌++◌, ℕ, zero, suc, ◌+◌, ◌-◌, ◌/◌, ◌%◌, ltb, ℤ, pos, negsuc, length, replicate}
+use Rattle.std.specs.Prelude.{Bool, true, false, List, [], ◌∷◌, ◌++◌, ℕ, zero, suc, ◌+◌, ◌-◌, ◌/◌, ◌%◌, ltb, ℤ, pos}
+use Rattle.std.specs.Prelude.{negsuc, length, replicate}
 use Prim.Native.Char.{code}
-use Rattle.base.specs.If.{if◌then◌else◌}
+use Rattle.base.specs.If.{when◌then◌else◌}
 use Rattle.signed.specs.Signed.{low32}
 use Rattle.expansion.specs.declared.Base.{Base}
 use Rattle.expansion.specs.declared.Base.TheVariants.{Decimal, Octal, SmallHex, CapitalHex}
 
 -- the byte of a digit, letters from the code a on
 abbrev pub digit_byte : ℕ → ℕ → ℕ
-digit_byte a d = if ltb d 10 then code "0" + d else a + (d - 10)
+digit_byte a d = when ltb d 10 then code "0" + d else a + (d - 10)
 
 -- n in base b, highest digit first; the count falls with each digit; n and one is enough (digits_enough of
 -- expansion_laws)
@@ -43,5 +44,5 @@ numeral CapitalHex v = digits 16 (code "A") (low32 v)
 unfoldable pub printed : Base → Bool → ℕ → ℤ → List ℕ
 printed base zeros width v =
     let missing : ℕ = width - (length (sign base v) + length (numeral base v)) in
-    if zeros then sign base v ++ (replicate missing (code "0") ++ numeral base v)
+    when zeros then sign base v ++ (replicate missing (code "0") ++ numeral base v)
     else replicate missing (code " ") ++ (sign base v ++ numeral base v)

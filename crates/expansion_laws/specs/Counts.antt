@@ -10,14 +10,15 @@ use Prim.Native.Char.{code}
 use native.Mathlib.Omega.{arith}
 use Rattle.std.proofs.Math.Dec.{eqb, leb}
 use borrow.Author.Tests.{lt-ltb, le-ltb}
-use Rattle.base.specs.If.{if◌then◌else◌}
+use Rattle.base.specs.If.{when◌then◌else◌}
 use Rattle.base.proofs.IfLaws.{true_false, below_or, if_both}
 use Rattle.expansion.specs.Limits.{string_most, constant_most, expansion_most}
 use Rattle.expansion.specs.declared.Item.{Item}
 use Rattle.expansion.specs.declared.Item.TheVariants as I
 use Rattle.expansion.specs.declared.Lexed.{Lexed}
 use Rattle.expansion.specs.Items.{byte_at, is_digit, is_nonzero, is_letter, argument_at, quoted_at}
-use Rattle.expansion.specs.Items.{decimal, digits_end, braced_at, store_at, load_at, format_at, width_at, percent_at, item_at}
+use Rattle.expansion.specs.Items.{decimal, digits_end, braced_at, store_at, load_at, format_at, width_at, percent_at}
+use Rattle.expansion.specs.Items.{item_at}
 use Rattle.expansion.specs.Form.{class_at}
 use Rattle.expansion.specs.Machine.{Passing, stops, opens, passing}
 use Rattle.expansion.specs.Counting.{count_from, count_of, prints_text, room_of}
@@ -26,7 +27,7 @@ use Rattle.expansion_laws.specs.Passes.{passed_to, passed_behind, passed_step, p
 
 -- 1 for an item that passes a test, else 0
 abbrev pub count_one : (Item → Bool) → List ℕ → ℕ → ℕ
-count_one ok s i = if ok (item_at s i).item then 1 else 0
+count_one ok s i = when ok (item_at s i).item then 1 else 0
 
 -- the items of what is left of a string from place i on that pass a test
 unfoldable pub count_of_rest : (Item → Bool) → List ℕ → ℕ → ℕ
@@ -94,7 +95,8 @@ module _ (ok : Item → Bool) (s : List ℕ) where
       (λ l. rw (passed_end elses s i d l) (omega arith))
     where
       by_passing : (n : Passing) → i < length s
-          → ((e : ℕ) → count_of_rest ok s (passed_to elses s (item_at s i).next e) ≤ count_of_rest ok s (item_at s i).next)
+          → ((e : ℕ) → count_of_rest ok s (passed_to elses s (item_at s i).next e) ≤ count_of_rest ok s
+          (item_at s i).next)
           → count_of_rest ok s (passed_behind elses s (class_at s i).next n) ≤ count_of_rest ok s i
       by_passing stops l again = unfold class_at in omega (arith, count_step i l)
       by_passing (opens e) l again = unfold class_at in omega (arith, count_step i l, again e)

@@ -1,7 +1,8 @@
 -- How many digits a number has.
 -- Assumes nothing.
 use Rattle.std.specs.Prelude.{◌≡◌, [], ◌∷◌, ℕ, zero, suc, ◌+◌, ◌*◌, ◌/◌, ◌%◌, ◌^◌, ◌≤◌, ◌<◌, length}
-use Rattle.std.proofs.Common.{◌∙◌, mul-le-mul_left, div-lt_iff_lt-mul, le-div_iff_mul-le, pow-suc, lt_of_lt_of_le, one-mul, mul-one, mul_comm, arith, length-append}
+use Rattle.std.proofs.Common.{◌∙◌, mul-le-mul_left, div-lt_iff_lt-mul, le-div_iff_mul-le, pow-suc, lt_of_lt_of_le}
+use Rattle.std.proofs.Common.{one-mul, mul-one, mul_comm, arith, length-append}
 use Rattle.std.proofs.Math.Nat.{one-le-pow, pow-zero}
 use Rattle.base.proofs.IfLaws.{below_or}
 use Rattle.expansion.specs.Print.{digit_byte, digits}

@@ -22,7 +22,8 @@ digits_same (suc f) (suc g) b a n h p q = by_test (ltb n b) refl (λ k l. digits
     by_test true e again = rw (digits_from, e)
     by_test false e again =
         let r : n / b < n = div_falls n b h (ltb-false n b e) in
-        rw (digits_from, e) (ap (λ (ds : List ℕ). ds ++ (digit_byte a (n % b) ∷ [])) (again (omega arith) (omega arith)))
+        rw (digits_from, e) (ap (λ (ds : List ℕ). ds
+        ++ (digit_byte a (n % b) ∷ [])) (again (omega arith) (omega arith)))
 
 -- ---- the laws
 

@@ -9,7 +9,7 @@ use native.Mathlib.Omega.{arith}
 use lib.Dec.{eqb, leb}
 use lib.ListN.{length, get_or}
 use borrow.Author.Tests.{eq-eqb, ne_eqb, eqb-false, lt-ltb, le-ltb, not-true, not-false}
-use Rattle.base.specs.If.{if◌then◌else◌}
+use Rattle.base.specs.If.{when◌then◌else◌}
 use Rattle.base.specs.Scan.{scan, every}
 use Rattle.base.specs.Answer.{Answer, refused, gives, map_answer, and_then, is_given}
 use Rattle.base.proofs.IfLaws.{below_or, true_false, if_both}
@@ -252,7 +252,7 @@ opened_fits e f n v q = refusing_at Fits (opening e f) n v q by_edition
     mapped (refused n v) h = h
     mapped (gives s) h = tt
 
-    by_edition : Refusing Fits (if not (ok_edition e) then refused 3 [] else map_answer (opening_of e) (reading f))
+    by_edition : Refusing Fits (when not (ok_edition e) then refused 3 [] else map_answer (opening_of e) (reading f))
     by_edition = if_both (Refusing Fits) (not (ok_edition e)) (λ _. omega arith) (λ _. mapped (reading f) (reading_fits f))
 
 pub merged_fits : (e : Edition) (a b : List ℕ) (room n : ℕ) (v : List ℕ) → merging e a b room ≡ refused n v → n ≤ 7

@@ -2,8 +2,9 @@
 -- that the number names, the byte or slot there is bad by document 01's rule, and every one before it in that table is
 -- good.
 -- Statements only: proofs/Positions.antt has the proof. Assumes nothing.
-use Rattle.std.specs.Prelude.{◌≡◌, Bool, true, false, not, List, [], ◌∷◌, ◌⊎◌, ℕ, ◌+◌, ◌*◌, ◌≤◌, ◌<◌, eqb, ltb, length, get_or}
-use Rattle.base.specs.If.{if◌then◌else◌}
+use Rattle.std.specs.Prelude.{◌≡◌, Bool, true, false, not, List, [], ◌∷◌, ◌⊎◌, ℕ, ◌+◌, ◌*◌, ◌≤◌, ◌<◌, eqb, ltb}
+use Rattle.std.specs.Prelude.{length, get_or}
+use Rattle.base.specs.If.{when◌then◌else◌}
 use Rattle.base.specs.Answer.{refused, is_given}
 use Rattle.word.specs.Nul.{not_nul_at}
 use Rattle.edition.specs.declared.Edition.{Edition}
@@ -28,20 +29,20 @@ pub record Table : Type 0 where
 -- "the NUL, which is its only NUL": the last names byte is one, and no other is
 abbrev pub ok_name_at : List ℕ → Sizes → ℕ → Bool
 ok_name_at f s i =
-    if eqb (i + 1) s.names then not (not_nul_at f (header_size + i)) else not_nul_at f (header_size + i)
+    when eqb (i + 1) s.names then not (not_nul_at f (header_size + i)) else not_nul_at f (header_size + i)
 
 -- a boolean, or behind them the pad byte, which is 0
 abbrev pub ok_boolean_or_pad_at : List ℕ → Sizes → ℕ → Bool
 ok_boolean_or_pad_at f s i =
-    if ltb i s.booleans then ok_boolean_at f s i else eqb (get_or f (booleans_at s + i) 0) 0
+    when ltb i s.booleans then ok_boolean_at f s i else eqb (get_or f (booleans_at s + i) 0) 0
 
 -- "4 names; 5 boolean or pad byte; 6 number slot; 7 string slot"
 abbrev pub table_of : List ℕ → Sizes → ℕ → Table
 table_of f s n =
-    if eqb n 4 then record { start = header_size; width = 1; count = s.names; ok = ok_name_at f s }
-    else if eqb n 5 then
+    when eqb n 4 then record { start = header_size; width = 1; count = s.names; ok = ok_name_at f s }
+    else when eqb n 5 then
     record { start = booleans_at s; width = 1; count = s.booleans + pad_of s; ok = ok_boolean_or_pad_at f s }
-    else if eqb n 6 then
+    else when eqb n 6 then
     record { start = numbers_at s; width = number_width; count = s.numbers; ok = ok_number_at f s }
     else record { start = strings_at s; width = offset_width; count = s.strings; ok = ok_string_at f s }
 

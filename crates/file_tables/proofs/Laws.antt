@@ -8,7 +8,7 @@ use native.Mathlib.Omega.{arith}
 use lib.Dec.{leb, eqb, ltb}
 use lib.ListN.{length, get_or}
 use borrow.Author.Tests.{lt-leb, le-leb, eq-eqb, ne_eqb, lt-ltb, le-ltb, leb-true}
-use Rattle.base.specs.If.{if◌then◌else◌}
+use Rattle.base.specs.If.{when◌then◌else◌}
 use Rattle.base.proofs.IfLaws.{below_or, true_false, and_left}
 use Rattle.base.specs.Scan.{scan}
 use Rattle.base.proofs.ScanLaws.{scan_all, scan_le, scan_before, scan_ext}
@@ -220,10 +220,10 @@ module _ (f : List ℕ) where
 
 module _ {f : List ℕ} {s : Sizes} {t : Tables} (k : Framed f s t) where
   -- what is left once the header has passed
-  reading_framed : reading f ≡ (if not (ok_names f s) then refused 4 (bad_names f s ∷ [])
-      else if not (ok_booleans f s && ok_pad f s) then refused 5 (bad_boolean f s ∷ [])
-      else if not (ok_numbers f s) then refused 6 (bad_number f s ∷ [])
-      else if not (ok_strings f s) then refused 7 (bad_string f s ∷ [])
+  reading_framed : reading f ≡ (when not (ok_names f s) then refused 4 (bad_names f s ∷ [])
+      else when not (ok_booleans f s && ok_pad f s) then refused 5 (bad_boolean f s ∷ [])
+      else when not (ok_numbers f s) then refused 6 (bad_number f s ∷ [])
+      else when not (ok_strings f s) then refused 7 (bad_string f s ∷ [])
       else gives s)
   unfolding reading
   reading_framed =

@@ -4,7 +4,8 @@
 #![tactic(auto)]
 
 ghost use Rattle.std.specs.Prelude.{◌≡◌, Bool, ℕ, ◌+◌, ◌≤◌, ◌<◌, length};
-ghost use Rattle.expansion.specs.Items.{argument_at, quoted_at, braced_at, store_at, load_at, format_at, width_at, percent_at};
+ghost use Rattle.expansion.specs.Items.{argument_at, quoted_at, braced_at, store_at, load_at, format_at, width_at};
+ghost use Rattle.expansion.specs.Items.{percent_at};
 ghost use Rattle.expansion.specs.Form.{class_at};
 ghost use Rattle.item_parts.specs.Classes.{item_class, other_at};
 

@@ -14,7 +14,7 @@ use lib.Seq.{drop-cons}
 use borrow.Author.Tests.{leb-true, le-leb, lt-leb, ne_eqb}
 use mir.Val.{has_key}
 use types.Run.{OneOf, hit}
-use Rattle.base.specs.If.{if◌then◌else◌}
+use Rattle.base.specs.If.{when◌then◌else◌}
 use Rattle.base.proofs.IfLaws.{true_false, and_left, and_right}
 use Rattle.base.proofs.ScanLaws.{scan_ge, scan_step, scan_hit, scan_end}
 use Rattle.base.specs.Tabulate.{Each}
@@ -38,13 +38,13 @@ or_false false = refl
 -- the item whose second byte is x and stands at j
 abbrev pub behind : ℕ → List ℕ → ℕ → Lexed
 behind x s j =
-    if eqb x 112 then argument_at s j
-    else if eqb x 39 then quoted_at s j
-    else if eqb x 123 then braced_at s j
-    else if eqb x 80 then store_at s j
-    else if eqb x 103 then load_at s j
-    else if eqb x 48 then width_at s (j + 1) true
-    else if is_nonzero x then width_at s j false
+    when eqb x 112 then argument_at s j
+    else when eqb x 39 then quoted_at s j
+    else when eqb x 123 then braced_at s j
+    else when eqb x 80 then store_at s j
+    else when eqb x 103 then load_at s j
+    else when eqb x 48 then width_at s (j + 1) true
+    else when is_nonzero x then width_at s j false
     else lexed (found singles x) (j + 1)
 
 pub percent_byte : (s : List ℕ) (j : ℕ) {b : ℕ} → b ≡ byte_at s j → (k : ℕ) → b ≡ k → behind k s j ≡ percent_at s j
@@ -112,7 +112,7 @@ unfoldable pub braced_from : List ℕ → ℕ → ℕ → ℕ → Lexed
 braced_from s j i v =
     let e : ℕ = digits_end s i in
     let w : ℕ = decimal v (take (e - i) (drop i s)) in
-    if is_digit (byte_at s (j + 1)) && (eqb (byte_at s e) 125 && leb w constant_most) then lexed (Constant (pos w)) (e + 1) else wrong j
+    when is_digit (byte_at s (j + 1)) && (eqb (byte_at s e) 125 && leb w constant_most) then lexed (Constant (pos w)) (e + 1) else wrong j
 
 pub braced_start : (s : List ℕ) (j : ℕ) → braced_at s j ≡ braced_from s j (j + 1) 0
 unfolding braced_at braced_from
@@ -133,7 +133,7 @@ unfolding decimal
 decimal_ge v [] = omega arith
 decimal_ge v (d ∷ ds) = omega (arith, decimal_ge (v * 10 + (d - 48)) ds)
 
-if_same : {A : Type 0} (b c : Bool) (x y : A) → c ≡ false → (if b && c then x else y) ≡ y
+if_same : {A : Type 0} (b c : Bool) (x y : A) → c ≡ false → (when b && c then x else y) ≡ y
 if_same true c x y e = rw e
 if_same false c x y e = refl
 

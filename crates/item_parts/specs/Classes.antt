@@ -2,7 +2,7 @@
 -- Assumes nothing.
 use Rattle.std.specs.Prelude.{Bool, true, false, ◌&&◌, not, List, ℕ, ◌+◌, eqb}
 use Prim.Native.Char.{code}
-use Rattle.base.specs.If.{if◌then◌else◌}
+use Rattle.base.specs.If.{when◌then◌else◌}
 use Rattle.expansion.specs.declared.Item.TheVariants.{Constant}
 use Rattle.expansion.specs.declared.Lexed.{Lexed}
 use Rattle.expansion.specs.declared.Classed.{Classed}
@@ -27,6 +27,6 @@ lexed_constant B.Wrong j = wrong j
 -- the item whose second byte, at j, starts no other item
 abbrev pub other_at : List ℕ → ℕ → Lexed
 other_at s j =
-    if eqb (byte_at s j) (code "0") then width_at s (j + 1) true
-    else if is_nonzero (byte_at s j) then width_at s j false
+    when eqb (byte_at s j) (code "0") then width_at s (j + 1) true
+    else when is_nonzero (byte_at s j) then width_at s j false
     else wrong (j + 1)

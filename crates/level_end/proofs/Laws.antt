@@ -5,7 +5,7 @@ use mathlib.Core.Bool.{Bool, true, false}
 use mathlib.Core.List.{List}
 use Prim.Native.Nat.{ℕ, zero, suc, ◌-◌, ◌≤◌, ◌<◌}
 use native.Mathlib.Omega.{arith}
-use Rattle.base.specs.If.{if◌then◌else◌}
+use Rattle.base.specs.If.{when◌then◌else◌}
 use Rattle.expansion.specs.declared.Class.{Class}
 use Rattle.expansion.specs.declared.Class.TheVariants.{Plain, If, Then, Else, End, Wrong}
 use Rattle.expansion.specs.declared.Classed.{Classed}
@@ -33,7 +33,7 @@ turn_stop : (p : Passing) → as_turn p ≡ Stop → p ≡ stops
 turn_stop stops e = refl
 turn_stop (opens d) e = never (sym e)
 
-pub else_level : (elses : Bool) (d : ℕ) → d ≡ 0 → turn_of elses Else d ≡ (if elses then Stop else Go d)
+pub else_level : (elses : Bool) (d : ℕ) → d ≡ 0 → turn_of elses Else d ≡ (when elses then Stop else Go d)
 unfolding passing
 else_level true zero e = refl
 else_level false zero e = refl

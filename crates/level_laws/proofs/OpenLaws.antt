@@ -8,7 +8,7 @@ use native.Mathlib.Nat.{not-suc-le-zero}
 use native.Mathlib.Omega.{arith}
 use lib.Dec.{ltb}
 use lib.ListN.{length}
-use Rattle.base.specs.If.{if◌then◌else◌}
+use Rattle.base.specs.If.{when◌then◌else◌}
 use Rattle.base.proofs.IfLaws.{below_or}
 use Rattle.expansion.specs.Limits.{nest_most}
 use Rattle.expansion.specs.declared.Class.{Class}
@@ -81,12 +81,12 @@ abbrev inner_of : Passing → ℕ
 inner_of stops = 0
 inner_of (opens d) = d
 
-after_if_lem : (b : Bool) (ls ms : List Level) → (if b then levels (condition ∷ ls) else misplaced) ≡ levels ms
+after_if_lem : (b : Bool) (ls ms : List Level) → (when b then levels (condition ∷ ls) else misplaced) ≡ levels ms
     → length ms ≡ suc (length ls)
 after_if_lem true ls ms q = sym (opened q)
 after_if_lem false ls ms q = not_levels q
 
-after_else_lem : (elses : Bool) (d : ℕ) → (if elses then stops else opens zero) ≡ opens d → d ≡ 0
+after_else_lem : (elses : Bool) (d : ℕ) → (when elses then stops else opens zero) ≡ opens d → d ≡ 0
 after_else_lem true d p = not_opens p
 after_else_lem false d p = sym (ap inner_of p)
 

@@ -8,7 +8,7 @@ use native.Mathlib.Omega.{arith}
 use lib.Dec.{leb}
 use lib.ListN.{length, set}
 use borrow.Author.Tests.{le-leb, lt-leb, leb-true}
-use Rattle.base.specs.If.{if◌then◌else◌}
+use Rattle.base.specs.If.{when◌then◌else◌}
 use Rattle.base.proofs.IfLaws.{true_false, and_left, and_right}
 use Rattle.base.specs.Tabulate.{tabulate}
 use Rattle.base.proofs.TabulateLaws.{length_tabulate, tabulate_more}
@@ -116,7 +116,7 @@ module _ (e : Edition) (r : Rooms) where
                 )
 
 -- a test that gives was passed
-passed : (t : Bool) (n : ℕ) (v : List ℕ) (rest : Answer (Unit {0})) → gives tt ≡ (if not t then refused n v else rest)
+passed : (t : Bool) (n : ℕ) (v : List ℕ) (rest : Answer (Unit {0})) → gives tt ≡ (when not t then refused n v else rest)
     → (t ≡ true) × (gives tt ≡ rest)
 passed true n v rest q = (refl, q)
 passed false n v rest q = true_false (ap is_given q)

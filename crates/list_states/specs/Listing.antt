@@ -2,7 +2,7 @@
 -- entry; Numbers of refusal). Each array has a number for each place of its list, as the writer takes them.
 -- Assumes nothing.
 use Rattle.std.specs.Prelude.{◌≡◌, ◌&&◌, not, List, [], ◌∷◌, ℕ, ◌≤◌, ◌<◌, leb, length}
-use Rattle.base.specs.If.{if◌then◌else◌}
+use Rattle.base.specs.If.{when◌then◌else◌}
 use Rattle.base.specs.Tabulate.{tabulate}
 use Rattle.base.specs.Overwrite.{put_at}
 use Rattle.base.specs.Answer.{Answer, refused, gives, map_answer, and_then}
@@ -25,7 +25,8 @@ pub record Arrays : Type 0 where
   pub string_starts : List ℕ
   pub string_lengths : List ℕ
 
-abbrev pub arrays : (boolean_kinds number_kinds number_values string_kinds string_starts string_lengths : List ℕ) → Arrays
+abbrev pub arrays : (boolean_kinds number_kinds number_values string_kinds string_starts string_lengths : List ℕ)
+    → Arrays
 arrays boolean_kinds number_kinds number_values string_kinds string_starts string_lengths =
     record {
       boolean_kinds = boolean_kinds;
@@ -106,10 +107,10 @@ states_of e f =
 -- places
 unfoldable pub room_for : Edition → Rooms → Answer (Unit {0})
 room_for e r =
-    if not (leb e.booleans r.boolean_kinds) then refused 8 (e.booleans ∷ [])
-    else if not (leb e.numbers r.number_kinds && leb e.numbers r.number_values) then
+    when not (leb e.booleans r.boolean_kinds) then refused 8 (e.booleans ∷ [])
+    else when not (leb e.numbers r.number_kinds && leb e.numbers r.number_values) then
     refused 8 (e.numbers ∷ [])
-    else if not (leb e.strings r.string_kinds
+    else when not (leb e.strings r.string_kinds
     && (leb e.strings r.string_starts && leb e.strings r.string_lengths)) then refused 8 (e.strings ∷ [])
     else gives tt
 

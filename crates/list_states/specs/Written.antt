@@ -38,4 +38,5 @@ pub record SameStates (e : Edition) (f g : List ℕ) : Type 0 where
   pub booleans : (p : Place) → asking_boolean e g p ≡ asking_boolean e f p
   pub numbers : (p : Place) → asking_number e g p ≡ asking_number e f p
   pub strings : (p : Place)
-      → map_answer (map_state (bytes_of g)) (asking_string e g p) ≡ map_answer (map_state (bytes_of f)) (asking_string e f p)
+      → map_answer (map_state (bytes_of g)) (asking_string e g p)
+      ≡ map_answer (map_state (bytes_of f)) (asking_string e f p)

@@ -8,7 +8,7 @@ use native.Mathlib.Omega.{arith}
 use lib.Dec.{leb}
 use lib.IntN.{ℤ}
 use lib.ListN.{length}
-use Rattle.base.specs.If.{if◌then◌else◌}
+use Rattle.base.specs.If.{when◌then◌else◌}
 use Rattle.base.specs.Overwrite.{put_at}
 use Rattle.base.proofs.OverwriteLaws.{put_nil}
 use Rattle.expansion.specs.declared.Item.{Item}
@@ -23,7 +23,7 @@ pub emitted_nothing : (b : List ℕ) (at : ℕ) → b ≡ emitted b at []
 unfolding emitted
 emitted_nothing b at = by_test (leb (at + 0) (length b))
   where
-    by_test : (t : Bool) → b ≡ (if t then put_at b at [] else b)
+    by_test : (t : Bool) → b ≡ (when t then put_at b at [] else b)
     by_test true = sym (put_nil b at)
     by_test false = refl
 

@@ -11,7 +11,7 @@ use lib.ListN.{length, take, drop, set, length-append}
 use lib.Seq.{get_or-set_same, get_or-set_other, drop-append-add}
 use borrow.Author.Count.{below_more}
 use borrow.Author.Tests.{lt-ltb, le-leb, lt-leb, ne_eqb}
-use Rattle.base.specs.If.{if◌then◌else◌}
+use Rattle.base.specs.If.{when◌then◌else◌}
 use Rattle.base.specs.Tabulate.{tabulate}
 use Rattle.base.proofs.TabulateLaws.{tabulate_ext}
 use Rattle.base.specs.Overwrite.{put_at}
@@ -91,7 +91,7 @@ pub over_stands : {A : Type 0} (k : ℕ) (x : A) (s t : State A) → state_of k 
 unfolding state_of over
 over_stands {A} k x s t q n = rw (← q, ne_eqb k 0 n) (by_test (eqb k 1))
   where
-    by_test : (b : Bool) → (if b then present x else cancelled) ≡ over (if b then present x else cancelled) t
+    by_test : (b : Bool) → (when b then present x else cancelled) ≡ over (when b then present x else cancelled) t
     by_test true = refl
     by_test false = refl
 

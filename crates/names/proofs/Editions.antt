@@ -11,7 +11,7 @@ use lib.Dec.{lit≤}
 use lib.ListN.{length, get_or, take, length-take}
 use lib.Seq.{get_or-take}
 use borrow.Author.Tests.{ltb-true, lt-ltb, le-ltb}
-use Rattle.base.specs.If.{if◌then◌else◌}
+use Rattle.base.specs.If.{when◌then◌else◌}
 use Rattle.base.specs.Scan.{scan}
 use Rattle.base.proofs.IfLaws.{true_false, below_or, is_false}
 use Rattle.base.proofs.ScanLaws.{scan_before, scan_fails}
@@ -263,8 +263,8 @@ found_means e n f g q r = known_means e n ∙ ap (known_in e) (sym q) ∙ sym r
 
 -- a place that an edition knows, a larger one knows; f is what is found there
 known_more : (n m : ℕ) (p : Place) (f : Found) → n ≤ m
-    → ((if knows n p then f else F.Unknown) ≡ F.Unknown)
-    ⊎ ((if knows m p then f else F.Unknown) ≡ (if knows n p then f else F.Unknown))
+    → ((when knows n p then f else F.Unknown) ≡ F.Unknown)
+    ⊎ ((when knows m p then f else F.Unknown) ≡ (when knows n p then f else F.Unknown))
 known_more n m p f l =
     below_or p.0 n
     (λ k. inr (rw (lt-ltb p.0 n k, lt-ltb p.0 m (omega arith))))

@@ -11,7 +11,7 @@ use lib.Dec.{eqb, leb, ltb, lit<, lit≤}
 use lib.ListN.{length, get_or, take, length-take, get_or-append, get_or-eq_default}
 use lib.Seq.{get_or-append-add, get_or-take, ext_get_or}
 use borrow.Author.Tests.{ltb-true, leb-true, eqb-true, eq-eqb, ne_eqb, le-leb, lt-ltb, le-ltb}
-use Rattle.base.specs.If.{if◌then◌else◌}
+use Rattle.base.specs.If.{when◌then◌else◌}
 use Rattle.base.proofs.IfLaws.{true_false, and_left, and_right, below_or, is_false}
 use Rattle.base.proofs.ScanLaws.{scan_ext}
 use Rattle.word.specs.Word.{word}
@@ -109,7 +109,7 @@ same_sought : (m n : List ℕ) → fits_table m ≡ true → (packed m ≡ 0 →
 unfolding sought
 same_sought m n d z b c = by_fit (fits_table n) refl
   where
-    by_fit : (t : Bool) → fits_table n ≡ t → same_bytes m n ≡ eqb (packed m) (if t then packed n else 0)
+    by_fit : (t : Bool) → fits_table n ≡ t → same_bytes m n ≡ eqb (packed m) (when t then packed n else 0)
     by_fit true e =
         elim (ℕ_discrete (packed m) (packed n)) [
           | yes q ↦ rw (eq-eqb _ _ q, same_number m n b c d e q) (same_refl n)
@@ -309,7 +309,7 @@ there_below : (c : ℕ) (names : List (List ℕ)) (i : ℕ) → ltb i (length (t
 there_below c names i h = let l = ltb-true i (length (take c names)) h in let m = length-take c names in omega arith
 
 by_tests : (e : Edition) (x y z : Bool) (i j k : ℕ) → (x ≡ true → i < e.booleans) → (y ≡ true → j < e.numbers) → (z ≡ true → k < e.strings)
-    → FoundIn e (if x then F.Boolean (place i) else if y then F.Number (place j) else if z then F.String (place k) else F.Unknown)
+    → FoundIn e (when x then F.Boolean (place i) else when y then F.Number (place j) else when z then F.String (place k) else F.Unknown)
 by_tests e true y z i j k f g h = f refl
 by_tests e false true z i j k f g h = g refl
 by_tests e false false true i j k f g h = h refl

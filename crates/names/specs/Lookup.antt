@@ -1,7 +1,7 @@
 -- The capability of a name (document 01: Three ordered lists).
 -- Assumes nothing.
 use Rattle.std.specs.Prelude.{Bool, true, false, ◌&&◌, not, List, [], ◌∷◌, ℕ, eqb, ltb, length, get_or, take}
-use Rattle.base.specs.If.{if◌then◌else◌}
+use Rattle.base.specs.If.{when◌then◌else◌}
 use Rattle.base.specs.Scan.{scan}
 use Rattle.edition.specs.declared.Edition.{Edition}
 use Rattle.edition.specs.Edition.{place}
@@ -25,7 +25,7 @@ is_there ns n = ltb (place_in ns n) (length ns)
 -- an edition knows the beginning of each list that it counts
 unfoldable pub looking_up : Edition → List ℕ → Found
 looking_up e n =
-    if is_there (take e.booleans boolean_names) n then F.Boolean (place (place_in (take e.booleans boolean_names) n))
-    else if is_there (take e.numbers number_names) n then F.Number (place (place_in (take e.numbers number_names) n))
-    else if is_there (take e.strings string_names) n then F.String (place (place_in (take e.strings string_names) n))
+    when is_there (take e.booleans boolean_names) n then F.Boolean (place (place_in (take e.booleans boolean_names) n))
+    else when is_there (take e.numbers number_names) n then F.Number (place (place_in (take e.numbers number_names) n))
+    else when is_there (take e.strings string_names) n then F.String (place (place_in (take e.strings string_names) n))
     else F.Unknown

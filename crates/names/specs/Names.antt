@@ -4,7 +4,7 @@ use Rattle.std.specs.Prelude.{ℕ, ◌+◌, List, [], ◌∷◌, ◌++◌, eqb}
 use Prim.Native.Char.{code}
 use Prim.Native.String.{String}
 use Prim.Native.String.String.{[] as empty, ◌∷◌ as join}
-use Rattle.base.specs.If.{if◌then◌else◌}
+use Rattle.base.specs.If.{when◌then◌else◌}
 use Rattle.edition.specs.declared.Edition.{Edition}
 use Rattle.edition.specs.declared.Kind.{Kind}
 use Rattle.edition.specs.declared.Kind.TheVariants as Kinds
@@ -22,7 +22,7 @@ on_first b (n ∷ ns) = (b ∷ n) ∷ ns
 -- the parts of bytes between single marks
 unfoldable pub parted : ℕ → List ℕ → List (List ℕ)
 parted mark [] = [] ∷ []
-parted mark (b ∷ s) = let rest : List (List ℕ) = parted mark s in if eqb b mark then [] ∷ rest else on_first b rest
+parted mark (b ∷ s) = let rest : List (List ℕ) = parted mark s in when eqb b mark then [] ∷ rest else on_first b rest
 
 -- the names between single spaces
 unfoldable pub named : String → List (List ℕ)

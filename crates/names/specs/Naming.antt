@@ -1,7 +1,7 @@
 -- Names by kind and place, and as the code's table has them.
 -- Assumes nothing.
 use Rattle.std.specs.Prelude.{List, [], ◌∷◌, map, ℕ, eqb, length, get_or}
-use Rattle.base.specs.If.{if◌then◌else◌}
+use Rattle.base.specs.If.{when◌then◌else◌}
 use Rattle.word.specs.Word.{word, bytes}
 use Rattle.edition.specs.declared.Kind.{Kind}
 use Rattle.edition.specs.declared.Place.{Place}
@@ -18,14 +18,14 @@ packed n = word 8 n 0
 -- the bytes before the first NUL
 unfoldable pub before_nul : List ℕ → List ℕ
 before_nul [] = []
-before_nul (b ∷ s) = if eqb b 0 then [] else b ∷ before_nul s
+before_nul (b ∷ s) = when eqb b 0 then [] else b ∷ before_nul s
 
 unfoldable pub unpacked : ℕ → List ℕ
 unpacked w = before_nul (bytes 8 w)
 
 -- the name at a place of a kind's list, as a number; 17 beyond the list
 unfoldable pub naming : Kind → Place → Answer ℕ
-naming k p = if knows (length (names_of k)) p then gives (packed (get_or (names_of k) p.0 [])) else refused 17 []
+naming k p = when knows (length (names_of k)) p then gives (packed (get_or (names_of k) p.0 [])) else refused 17 []
 
 abbrev pub says_name : Name → Answer ℕ
 says_name (N.Packed w) = gives w

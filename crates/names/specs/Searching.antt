@@ -1,7 +1,7 @@
 -- A name as the code looks for it in its table, and what an edition knows of what is found.
 -- Assumes nothing.
 use Rattle.std.specs.Prelude.{Bool, ◌&&◌, not, List, ℕ, ◌+◌, ◌-◌, eqb, leb, length, get_or}
-use Rattle.base.specs.If.{if◌then◌else◌}
+use Rattle.base.specs.If.{when◌then◌else◌}
 use Rattle.base.specs.Scan.{scan}
 use Rattle.edition.specs.declared.Edition.{Edition}
 use Rattle.edition.specs.Edition.{knows}
@@ -19,7 +19,7 @@ fits_table n = leb 2 (length n) && (leb (length n) name_most && not (eqb (get_or
 
 -- the number that is looked for in the table; 0, which the table doesn't hold, for bytes that can't be a name of it
 unfoldable pub sought : List ℕ → ℕ
-sought n = if fits_table n then packed n else 0
+sought n = when fits_table n then packed n else 0
 
 -- of the count numbers from first on, the place of one, counted from first; count where it isn't there
 unfoldable pub searching : ℕ → ℕ → ℕ → ℕ
@@ -27,7 +27,7 @@ searching first count w = scan (λ i. not (eqb (get_or packed_names (first + i) 
 
 -- what an edition knows of a capability that is found: nothing, where its place is beyond the edition
 unfoldable pub known_in : Edition → Found → Found
-known_in e (F.Boolean p) = if knows e.booleans p then F.Boolean p else F.Unknown
-known_in e (F.Number p) = if knows e.numbers p then F.Number p else F.Unknown
-known_in e (F.String p) = if knows e.strings p then F.String p else F.Unknown
+known_in e (F.Boolean p) = when knows e.booleans p then F.Boolean p else F.Unknown
+known_in e (F.Number p) = when knows e.numbers p then F.Number p else F.Unknown
+known_in e (F.String p) = when knows e.strings p then F.String p else F.Unknown
 known_in e F.Unknown = F.Unknown

@@ -3,7 +3,7 @@
 #![tactic(auto)]
 
 ghost use Rattle.std.specs.Prelude.{◌≡◌, [], ◌+◌, ◌<◌, ◌≤◌, ltb, get_or};
-ghost use Rattle.base.specs.If.{if◌then◌else◌};
+ghost use Rattle.base.specs.If.{when◌then◌else◌};
 ghost use Rattle.base.specs.Answer.{refused, gives};
 ghost use Rattle.names.specs.Names.{all_names, all_named};
 ghost use Rattle.names.specs.Naming.{packed, packed_names, naming, says_name};
@@ -279,7 +279,7 @@ fn packed_name(k: usize) -> u64
 // The name at a place of the list of count names that starts at first among all names.
 fn name_in(first: usize, count: usize, place: Place) -> Name
     requires { first + count ≤ all_named }
-    ensures { says_name result ≡ (if ltb place.0 count then gives (packed (get_or all_names (first + place.0) []))
+    ensures { says_name result ≡ (when ltb place.0 count then gives (packed (get_or all_names (first + place.0) []))
         else refused 17 []) }
 {
     if count <= place.0 {

@@ -1,5 +1,7 @@
 // The line that shows a number of a compiled file in an edition, by its state. The caller opens the file. Proved: the
 // line is the one of specs/Numbers.antt. Assumed: nothing.
+#![tactic(auto)]
+
 ghost use Rattle.std.specs.Prelude.{◌≡◌, ◌∷◌, ◌++◌, ◌≤◌, length};
 ghost use Rattle.entry.specs.Asking.{opening};
 ghost use Rattle.entry.specs.Says.{says_opened};

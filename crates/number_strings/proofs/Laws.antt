@@ -10,7 +10,7 @@ use lib.Dec.{leb, ltb}
 use lib.IntN.{ℤ, pos}
 use lib.ListN.{length, get_or, set, take, drop, length-map, get_or-map}
 use borrow.Author.Tests.{lt-ltb, le-ltb}
-use Rattle.base.specs.If.{if◌then◌else◌}
+use Rattle.base.specs.If.{when◌then◌else◌}
 use Rattle.base.proofs.IfLaws.{true_false, below_or}
 use Rattle.base.proofs.ScanLaws.{every_all}
 use Rattle.signed.specs.Signed.{is_zero, add}
@@ -100,7 +100,7 @@ numbers_of_kind k (suc n) (x ∷ xs) h = rw h (numbers_of_kind k n xs h)
 
 -- ---- an item
 
-same_if : {A B : Type 0} (f : A → B) (t : Bool) (x y : A) → (if t then f x else f y) ≡ f (if t then x else y)
+same_if : {A B : Type 0} (f : A → B) (t : Bool) (x y : A) → (when t then f x else f y) ≡ f (when t then x else y)
 same_if f true x y = refl
 same_if f false x y = refl
 

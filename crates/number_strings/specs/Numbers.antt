@@ -4,9 +4,10 @@
 -- none. `numbers_alone` of proofs/Laws.antt says that it is so for every such string, all arguments and all
 -- variables.
 -- Assumes nothing.
-use Rattle.std.specs.Prelude.{◌≡◌, true, false, not, List, [], ◌∷◌, ◌++◌, ℕ, zero, suc, ◌+◌, ◌-◌, leb, ltb, ℤ, pos, length, get_or, set, drop, replicate}
+use Rattle.std.specs.Prelude.{◌≡◌, true, false, not, List, [], ◌∷◌, ◌++◌, ℕ, zero, suc, ◌+◌, ◌-◌, leb, ltb, ℤ, pos}
+use Rattle.std.specs.Prelude.{length, get_or, set, drop, replicate}
 use Prim.Native.Char.{code}
-use Rattle.base.specs.If.{if◌then◌else◌}
+use Rattle.base.specs.If.{when◌then◌else◌}
 use Rattle.base.specs.Answer.{Answer, refused, gives}
 use Rattle.signed.specs.Signed.{is_zero, add}
 use Rattle.characters.specs.Character.{character}
@@ -38,11 +39,11 @@ started01 arguments lasting =
 -- capital letters are the lasting variables
 unfoldable pub loaded01 : Machine01 → ℕ → ℤ
 loaded01 m c =
-    if leb c (code "Z") then get_or m.lasting (c - code "A") (pos 0) else get_or m.locals (c - code "a") (pos 0)
+    when leb c (code "Z") then get_or m.lasting (c - code "A") (pos 0) else get_or m.locals (c - code "a") (pos 0)
 
 unfoldable pub stored01 : Machine01 → ℕ → ℤ → Machine01
 stored01 m c v =
-    if leb c (code "Z") then record {
+    when leb c (code "Z") then record {
       stack = m.stack;
       arguments = m.arguments;
       locals = m.locals;
@@ -86,7 +87,7 @@ effect01 I.Not m a b = pushes (truth (is_zero b))
 effect01 I.Invert m a b = pushes (inverted b)
 effect01 I.Increment m a b = increments
 effect01 I.If m a b = prints []
-effect01 I.Then m a b = if is_zero b then to_else else prints []
+effect01 I.Then m a b = when is_zero b then to_else else prints []
 effect01 I.Else m a b = to_end
 effect01 I.End m a b = prints []
 effect01 I.Wrong m a b = prints []
@@ -109,7 +110,7 @@ with_arguments01 m xs = record { stack = m.stack; arguments = xs; locals = m.loc
 unfoldable pub performed01 : Effect01 → Machine01 → Taken01
 performed01 (prints bytes) m = goes_on m bytes
 performed01 (pushes v) m =
-    if ltb (length m.stack) stack_most then goes_on (with_stack01 m (v ∷ m.stack)) [] else full
+    when ltb (length m.stack) stack_most then goes_on (with_stack01 m (v ∷ m.stack)) [] else full
 performed01 (stores c v) m = goes_on (stored01 m c v) []
 performed01 increments m = goes_on (with_arguments01 m (incremented01 m.arguments)) []
 performed01 to_else m = goes_to_else m
@@ -120,7 +121,7 @@ unfoldable pub taking01 : Item → Machine01 → Taken01
 taking01 k m =
     let a : ℤ = get_or m.stack 1 (pos 0) in
     let b : ℤ = get_or m.stack 0 (pos 0) in
-    if ltb (length m.stack) (arity k) then empty
+    when ltb (length m.stack) (arity k) then empty
     else performed01 (effect01 k m a b) (with_stack01 m (drop (arity k) m.stack))
 
 -- ---- a run
@@ -154,14 +155,14 @@ run01 s arguments lasting = running01 (length s) s 0 (started01 arguments lastin
 unfoldable pub ended01 : Outcome01 → ℕ → Answer Expanding
 ended01 (failed n i) room = refused n (i ∷ [])
 ended01 (finished m out n) room =
-    if not (leb (length out) room) then refused 8 (length out ∷ [])
+    when not (leb (length out) room) then refused 8 (length out ∷ [])
     else gives (record { output = out; steps = n; lasting = m.lasting })
 
 -- "Expansion: 17, 1, 14 .., then the first failing step, then 8"
 unfoldable pub expanding01 : List ℕ → List ℤ → List ℤ → ℕ → ℕ → Answer Expanding
 expanding01 s arguments lasting size at =
-    if not (leb at size) then refused 17 []
-    else if not (leb (length s) string_most) then refused 1 []
+    when not (leb at size) then refused 17 []
+    else when not (leb (length s) string_most) then refused 1 []
     else formed (form_of s) (ended01 (run01 s arguments lasting) (size - at))
 
 -- ---- the statement

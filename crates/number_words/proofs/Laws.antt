@@ -14,7 +14,7 @@ use mir.Syntax.{w32}
 use mir.Val.{to_z}
 use mir.Facts.{to_z_pos, to_z-neg}
 use borrow.Author.Tests.{eq-eqb, ne_eqb, le-leb, lt-leb, leb-true, leb-false}
-use Rattle.base.specs.If.{if◌then◌else◌}
+use Rattle.base.specs.If.{when◌then◌else◌}
 use Rattle.expansion.specs.Items.{is_digit, decimal}
 use Rattle.number_words.specs.declared.Parsed.TheVariants.{Value, Wrong}
 use Rattle.number_words.specs.Number.{are_digits, is_numeral, signed_of, numeral_of, value_of}
@@ -49,9 +49,9 @@ magnitude_more s c = rw (digits_more s c, decimal_more 0 s c) (by_tests (are_dig
     v = decimal 0 s
 
     by_tests : (a b t : Bool) → leb v 2147483648 ≡ t
-        → (if a && b then limited (v * 10 + (c - 48)) else no_magnitude)
-        ≡ (let n : ℕ = if a then (if t then v else 2147483649) else no_magnitude in
-        if b then (if leb n 2147483649 then limited (n * 10 + (c - 48)) else no_magnitude) else no_magnitude)
+        → (when a && b then limited (v * 10 + (c - 48)) else no_magnitude)
+        ≡ (let n : ℕ = when a then (when t then v else 2147483649) else no_magnitude in
+        when b then (when leb n 2147483649 then limited (n * 10 + (c - 48)) else no_magnitude) else no_magnitude)
     by_tests true true true e =
         let l : v ≤ 2147483648 = leb-true v 2147483648 e in
         rw (le-leb v 2147483649 (omega arith))
@@ -111,7 +111,7 @@ module _ (s : List ℕ) (z : length s ≡ 0 → ⊥) where
   numeral_none = rw (ne_eqb (length s) 0 z) (by_tests (are_digits s) (leb (decimal 0 s) 2147483648) refl)
     where
       by_tests : (a t : Bool) → leb (decimal 0 s) 2147483648 ≡ t
-          → (if a then (if t then decimal 0 s else 2147483649) else no_magnitude) ≡ no_magnitude → false ≡ a
+          → (when a then (when t then decimal 0 s else 2147483649) else no_magnitude) ≡ no_magnitude → false ≡ a
       by_tests false t e h = refl
       by_tests true true e h =
           absurd (let l : decimal 0 s ≤ 2147483648 = leb-true (decimal 0 s) 2147483648 e in let z : ⊥ = omega arith in z)
@@ -121,7 +121,7 @@ module _ (s : List ℕ) (z : length s ≡ 0 → ⊥) where
   unfolding magnitude_of
   numeral_some = rw (ne_eqb (length s) 0 z) (by_test (are_digits s))
     where
-      by_test : (a : Bool) → ((if a then limited (decimal 0 s) else no_magnitude) ≡ no_magnitude → ⊥) → true ≡ a
+      by_test : (a : Bool) → ((when a then limited (decimal 0 s) else no_magnitude) ≡ no_magnitude → ⊥) → true ≡ a
       by_test true h = refl
       by_test false h = absurd (h refl)
 
@@ -159,7 +159,7 @@ numeral_is minus s z = rw (ne_eqb (length s) 0 z) (by_tests minus (are_digits s)
     v = decimal 0 s
 
     by_tests : (minus a t : Bool) → leb v 2147483648 ≡ t
-        → signed_of minus (if a then (if t then v else 2147483649) else no_magnitude) ≡ (if a then signed_of minus v else Wrong)
+        → signed_of minus (when a then (when t then v else 2147483649) else no_magnitude) ≡ (when a then signed_of minus v else Wrong)
     by_tests minus true true e = refl
     by_tests true true false e = rw e
     by_tests false true false e = rw (lt-leb v 2147483647 (let l : 2147483648 < v = leb-false v 2147483648 e in omega arith))

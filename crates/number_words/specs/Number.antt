@@ -1,7 +1,8 @@
 -- The number that a word is: decimal digits, after a minus where it is negative, whose value 32 bits with a sign hold.
 -- Assumes nothing.
-use Rattle.std.specs.Prelude.{Bool, true, false, ◌&&◌, not, List, [], ◌∷◌, ℕ, ◌+◌, ◌-◌, ◌*◌, eqb, leb, ℤ, pos, neg_ℤ, length, get_or, drop}
-use Rattle.base.specs.If.{if◌then◌else◌}
+use Rattle.std.specs.Prelude.{Bool, true, false, ◌&&◌, not, List, [], ◌∷◌, ℕ, ◌+◌, ◌-◌, ◌*◌, eqb, leb, ℤ, pos, neg_ℤ}
+use Rattle.std.specs.Prelude.{length, get_or, drop}
+use Rattle.base.specs.If.{when◌then◌else◌}
 use Rattle.expansion.specs.Items.{is_digit, decimal}
 use Rattle.number_words.specs.declared.Parsed.{Parsed}
 use Rattle.number_words.specs.declared.Parsed.TheVariants.{Value, Wrong}
@@ -25,15 +26,15 @@ signed false m = pos m
 
 -- the number of a magnitude, after a minus or not
 unfoldable pub signed_of : Bool → ℕ → Parsed
-signed_of minus m = if leb m (magnitude_most minus) then Value (signed minus m) else Wrong
+signed_of minus m = when leb m (magnitude_most minus) then Value (signed minus m) else Wrong
 
 -- the number of digits, after a minus or not
 unfoldable pub numeral_of : Bool → List ℕ → Parsed
-numeral_of minus s = if is_numeral s then signed_of minus (decimal 0 s) else Wrong
+numeral_of minus s = when is_numeral s then signed_of minus (decimal 0 s) else Wrong
 
 -- 45 is the minus
 unfoldable pub value_of : List ℕ → Parsed
-value_of word = if eqb (get_or word 0 0) 45 then numeral_of true (drop 1 word) else numeral_of false word
+value_of word = when eqb (get_or word 0 0) 45 then numeral_of true (drop 1 word) else numeral_of false word
 
 -- ---- digits alone, as the code reads them
 
@@ -42,7 +43,7 @@ abbrev pub large_magnitude : ℕ
 large_magnitude = 2147483649
 
 abbrev pub limited : ℕ → ℕ
-limited m = if leb m (magnitude_most true) then m else large_magnitude
+limited m = when leb m (magnitude_most true) then m else large_magnitude
 
 -- stands for the magnitude of what isn't digits
 abbrev pub no_magnitude : ℕ
@@ -50,8 +51,8 @@ no_magnitude = 4294967296
 
 unfoldable pub with_digit : ℕ → ℕ → ℕ
 with_digit n c =
-    if is_digit c then (if leb n large_magnitude then limited (n * 10 + (c - 48)) else no_magnitude)
+    when is_digit c then (when leb n large_magnitude then limited (n * 10 + (c - 48)) else no_magnitude)
     else no_magnitude
 
 unfoldable pub magnitude_of : List ℕ → ℕ
-magnitude_of s = if are_digits s then limited (decimal 0 s) else no_magnitude
+magnitude_of s = when are_digits s then limited (decimal 0 s) else no_magnitude

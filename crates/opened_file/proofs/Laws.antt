@@ -8,7 +8,7 @@ use native.Mathlib.Omega.{arith}
 use lib.Dec.{ltb}
 use lib.ListN.{length, get_or}
 use borrow.Author.Tests.{lt-ltb, le-ltb, ltb-true, eq-eqb, ne_eqb}
-use Rattle.base.specs.If.{if◌then◌else◌}
+use Rattle.base.specs.If.{when◌then◌else◌}
 use Rattle.base.proofs.IfLaws.{true_false, and_right}
 use Rattle.base.proofs.ScanLaws.{scan_ge}
 use Rattle.word.specs.Word.{word}
@@ -51,7 +51,7 @@ module _ {A : Type 0} (e : Edition) (f : List ℕ) (known : Bool) (x : A) where
   unfolding asking
   asking_given y q = by_tests (is_given (opening e f)) known q
     where
-      by_tests : (t k : Bool) → gives y ≡ (if t && k then gives x else refused 17 []) → (t ≡ true) × (y ≡ x)
+      by_tests : (t k : Bool) → gives y ≡ (when t && k then gives x else refused 17 []) → (t ≡ true) × (y ≡ x)
       by_tests true true p = (refl, cc)
       by_tests true false p = true_false (ap is_given p)
       by_tests false k p = true_false (ap is_given p)
@@ -63,7 +63,7 @@ pub opened_accepted : (e : Edition) (f : List ℕ) → is_given (opening e f) �
 unfolding opening
 opened_accepted e f g = by_tests (ok_edition e) (reading f) refl g
   where
-    by_tests : (t : Bool) (a : Answer Sizes) → reading f ≡ a → is_given (if not t then refused 3 [] else map_answer (opening_of e) a) ≡ true → Accepted f
+    by_tests : (t : Bool) (a : Answer Sizes) → reading f ≡ a → is_given (when not t then refused 3 [] else map_answer (opening_of e) a) ≡ true → Accepted f
     by_tests false a r h = true_false (sym h)
     by_tests true (refused n v) r h = true_false (sym h)
     by_tests true (gives s) r h = accepted_facts f s r

@@ -3,7 +3,7 @@
 -- Assumes nothing.
 use Rattle.std.specs.Prelude.{not, List, ℕ, eqb, ltb, length, get_or}
 use Prim.Native.Char.{code}
-use Rattle.base.specs.If.{if◌then◌else◌}
+use Rattle.base.specs.If.{when◌then◌else◌}
 use Rattle.option_words.specs.declared.OwnOption.{OwnOption}
 use Rattle.option_words.specs.declared.OwnOption.TheVariants as Own
 use Rattle.option_words.specs.declared.WordKind.{WordKind}
@@ -12,14 +12,14 @@ use Rattle.option_words.specs.declared.WordKind.TheVariants.{Operand, End, Flag,
 -- an option of a command's own: a flag, or `-n NAME`
 unfoldable pub own_kind : ℕ → OwnOption → WordKind
 own_kind letter Own.Nothing = Unknown
-own_kind letter (Own.Flag flag) = if eqb letter flag then Flag else Unknown
-own_kind letter Own.Name = if eqb letter (code "n") then Name else Unknown
+own_kind letter (Own.Flag flag) = when eqb letter flag then Flag else Unknown
+own_kind letter Own.Name = when eqb letter (code "n") then Name else Unknown
 
 unfoldable pub kind_of : List ℕ → OwnOption → WordKind
 kind_of w own =
-    if ltb (length w) 2 then Operand
-    else if not (eqb (get_or w 0 0) (code "-")) then Operand
-    else if not (eqb (length w) 2) then Unknown
-    else if eqb (get_or w 1 0) (code "-") then End
-    else if eqb (get_or w 1 0) (code "e") then Edition
+    when ltb (length w) 2 then Operand
+    else when not (eqb (get_or w 0 0) (code "-")) then Operand
+    else when not (eqb (length w) 2) then Unknown
+    else when eqb (get_or w 1 0) (code "-") then End
+    else when eqb (get_or w 1 0) (code "e") then Edition
     else own_kind (get_or w 1 0) own

@@ -11,7 +11,8 @@ use Rattle.base.specs.Tabulate.{Each}
 use Rattle.expansion.specs.Limits.{stack_most}
 use Rattle.expansion.specs.declared.Item.{Item}
 use Rattle.expansion.specs.Values.{Value, no_value}
-use Rattle.expansion.specs.Machine.{Machine, started, loaded, stored, raised, incremented, arity, other_kind, printed_by}
+use Rattle.expansion.specs.Machine.{Machine, started, loaded, stored, raised, incremented, arity, other_kind}
+use Rattle.expansion.specs.Machine.{printed_by}
 use Rattle.expansion.specs.Machine.{effect, with_stack, performed, taking}
 use Rattle.expansion.specs.Machine.{Effect, prints, pushes, stores, increments, to_else, to_end}
 use Rattle.output_laws.specs.Outputs.{HoldOf}

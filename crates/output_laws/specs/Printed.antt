@@ -1,6 +1,7 @@
 -- No item prints a NUL, where no text holds one.
 -- Assumes nothing.
-use Rattle.std.specs.Prelude.{◌≡◌, refl, Bool, true, false, List, [], ◌∷◌, ◌++◌, ℕ, zero, suc, ◌+◌, ◌-◌, ◌/◌, ◌%◌, ◌<◌, ltb, ℤ, pos, negsuc, length, replicate}
+use Rattle.std.specs.Prelude.{◌≡◌, refl, Bool, true, false, List, [], ◌∷◌, ◌++◌, ℕ, zero, suc, ◌+◌, ◌-◌, ◌/◌, ◌%◌}
+use Rattle.std.specs.Prelude.{◌<◌, ltb, ℤ, pos, negsuc, length, replicate}
 use Prim.Native.Char.{code}
 use Rattle.std.proofs.Common.{arith}
 use Rattle.base.proofs.IfLaws.{if_both}

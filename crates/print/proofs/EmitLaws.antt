@@ -8,7 +8,7 @@ use native.Mathlib.Omega.{arith}
 use lib.Dec.{leb}
 use lib.ListN.{length, length-append}
 use borrow.Author.Tests.{le-leb, lt-leb, leb-true}
-use Rattle.base.specs.If.{if◌then◌else◌}
+use Rattle.base.specs.If.{when◌then◌else◌}
 use Rattle.base.proofs.IfLaws.{below_or}
 use Rattle.base.specs.Overwrite.{put_at}
 use Rattle.base.proofs.OverwriteLaws.{length_put, put_nil, put_put}
@@ -26,7 +26,7 @@ pub length_emitted : (b : List ℕ) (at : ℕ) (xs : List ℕ) → length (emitt
 unfolding emitted
 length_emitted b at xs = by_test (leb (at + length xs) (length b)) refl
   where
-    by_test : (t : Bool) → leb (at + length xs) (length b) ≡ t → length (if t then put_at b at xs else b) ≡ length b
+    by_test : (t : Bool) → leb (at + length xs) (length b) ≡ t → length (when t then put_at b at xs else b) ≡ length b
     by_test true e = length_put b at xs (leb-true _ _ e)
     by_test false e = refl
 

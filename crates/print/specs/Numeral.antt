@@ -2,7 +2,7 @@
 -- Assumes nothing.
 use Rattle.std.specs.Prelude.{◌≡◌, Bool, true, false, List, [], ◌∷◌, ◌++◌, ℕ, ◌+◌, ◌-◌, ◌≤◌, eqb, ℤ, length, replicate}
 use Prim.Native.Char.{code}
-use Rattle.base.specs.If.{if◌then◌else◌}
+use Rattle.base.specs.If.{when◌then◌else◌}
 use Rattle.expansion.specs.declared.Base.{Base}
 use Rattle.expansion.specs.Print.{digits, sign, numeral}
 use Rattle.print.specs.declared.Numeral.{Numeral}
@@ -14,7 +14,8 @@ minus_sign false = []
 -- the sign, with so many blanks before it or zeros after it
 unfoldable pub front : Bool → Bool → ℕ → List ℕ
 front minus zeros missing =
-    if zeros then minus_sign minus ++ replicate missing (code "0") else replicate missing (code " ") ++ minus_sign minus
+    when zeros then minus_sign minus ++ replicate missing (code "0")
+    else replicate missing (code " ") ++ minus_sign minus
 
 -- what stands before so many digits in a width
 unfoldable pub before : Bool → Bool → ℕ → ℕ → List ℕ
@@ -22,7 +23,7 @@ before minus zeros width count = front minus zeros (width - (count + length (min
 
 -- nothing stands before the digits
 abbrev pub is_plain : Bool → ℕ → Bool
-is_plain minus width = if minus then false else eqb width 0
+is_plain minus width = when minus then false else eqb width 0
 
 -- the bytes of n in a width
 abbrev pub bytes_of : Numeral → Bool → ℕ → List ℕ

@@ -10,7 +10,7 @@ use lib.Dec.{eqb}
 use lib.ListN.{length, get_or, take, drop, set, length-append, length-drop, length-map}
 use lib.Seq.{length-take-le, take-append-le, drop-append-le, drop-append-add}
 use borrow.Author.Tests.{ne_eqb}
-use Rattle.base.specs.If.{if◌then◌else◌}
+use Rattle.base.specs.If.{when◌then◌else◌}
 use Rattle.base.specs.Tabulate.{tabulate}
 use Rattle.base.proofs.TabulateLaws.{length_tabulate, tabulate_more, map_append}
 use Rattle.base.specs.Overwrite.{put_at}
@@ -31,7 +31,7 @@ pub map_state_of : {A B : Type 0} (g : A → B) (k : ℕ) (x : A) → map_state 
 unfolding state_of
 map_state_of {A} {B} g k x = by_tests (eqb k 0) (eqb k 1)
   where
-    by_tests : (a b : Bool) → map_state g (if a then absent else if b then present x else cancelled) ≡ (if a then absent else if b then present (g x) else cancelled)
+    by_tests : (a b : Bool) → map_state g (when a then absent else when b then present x else cancelled) ≡ (when a then absent else when b then present (g x) else cancelled)
     by_tests true b = refl
     by_tests false true = refl
     by_tests false false = refl

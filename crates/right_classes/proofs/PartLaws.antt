@@ -9,7 +9,7 @@ use native.Mathlib.Omega.{arith}
 use lib.Dec.{eqb, leb}
 use lib.ListN.{length, take, drop, get_or-eq_default}
 use borrow.Author.Tests.{le-leb, eqb-true, ne_eqb}
-use Rattle.base.specs.If.{if◌then◌else◌}
+use Rattle.base.specs.If.{when◌then◌else◌}
 use Rattle.base.proofs.IfLaws.{true_false, and_left, and_right, below_or, is_false, if_true, if_false, if_both}
 use Rattle.base.proofs.ScanLaws.{scan_ge, scan_step}
 use Rattle.expansion.specs.Limits.{constant_most}
@@ -248,7 +248,7 @@ arms =
 
 -- for any other byte, the definition has two cases
 module _ (s : List ℕ) (j : ℕ) (n : NoneOf Unit arms (byte_at s j)) where
-  other : (if is_nonzero (byte_at s j) then width_at s j false else lexed (found singles (byte_at s j)) (j + 1))
+  other : (when is_nonzero (byte_at s j) then width_at s j false else lexed (found singles (byte_at s j)) (j + 1))
       ≡ percent_at s j
   unfolding percent_at
   other =

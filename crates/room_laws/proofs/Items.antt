@@ -10,7 +10,7 @@ use lib.Dec.{eqb, leb}
 use lib.IntN.{ℤ, pos, negsuc}
 use lib.ListN.{length, take, drop, length-append, length-replicate}
 use borrow.Author.Tests.{not-false}
-use Rattle.base.specs.If.{if◌then◌else◌}
+use Rattle.base.specs.If.{when◌then◌else◌}
 use Rattle.base.proofs.IfLaws.{if_both}
 use Rattle.signed.specs.Signed.{is_zero, low32}
 use Rattle.signed.proofs.Laws.{low_fits}
@@ -177,7 +177,7 @@ PrintsMost most e = length (printed_by e) ≤ most
 
 -- a text of at most so many bytes; what else an item prints has room bytes at most
 effect_most : (k : Item) (m : Machine) (a b : Value) (most room : ℕ) → ValueWithin most b → 11 ≤ room → width_of k ≤ room
-    → PrintsMost (room + most * (if prints_text k then 1 else 0)) (effect k m a b)
+    → PrintsMost (room + most * (when prints_text k then 1 else 0)) (effect k m a b)
 unfolding effect prints_text
 effect_most (I.Byte c) m a b most room h e w = omega arith
 effect_most (I.Argument n) m a b most room h e w = omega arith

@@ -5,7 +5,7 @@
 -- definition's turns bounds it: a run is the chain of its steps (`run_ends` of expansion_laws).
 -- Assumes nothing.
 use Rattle.std.specs.Prelude.{◌≡◌, List, ℕ, ◌+◌, ◌-◌, ◌*◌, ◌^◌, ◌≤◌, ◌<◌, ℤ, pos, negsuc, length}
-use Rattle.base.specs.If.{if◌then◌else◌}
+use Rattle.base.specs.If.{when◌then◌else◌}
 use Rattle.base.specs.Answer.{refused}
 use Rattle.base.specs.Tabulate.{Each}
 use Rattle.expansion.specs.Limits.{room_for, text_most}
@@ -38,7 +38,7 @@ Byte c = c < 256
 abbrev pub ItemBounded : ℕ → List ℕ → Type 0
 ItemBounded most s = (i : ℕ) (m : Machine) (a b : Value) → i < length s → ValueWithin most b
     → length (printed_by (effect (item_at s i).item m a b))
-    ≤ room_for ((item_at s i).next - i) + most * (if prints_text (item_at s i).item then 1 else 0)
+    ≤ room_for ((item_at s i).next - i) + most * (when prints_text (item_at s i).item then 1 else 0)
 
 -- what is said of a string with these arguments and variables, where no text has more than so many bytes
 pub record Bounded (most : ℕ) (s : List ℕ) (arguments : List Argument) (lent : List ℕ) (lasting : List ℤ) : Type 0

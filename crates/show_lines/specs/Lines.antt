@@ -1,7 +1,7 @@
 -- The lines that `ti show` prints of a file in an edition: its names, each capability that is present or cancelled.
 -- Assumes nothing.
 use Rattle.std.specs.Prelude.{List, [], ◌∷◌, ◌++◌, ℕ, ◌+◌, ◌-◌, ltb}
-use Rattle.base.specs.If.{if◌then◌else◌}
+use Rattle.base.specs.If.{when◌then◌else◌}
 use Rattle.edition.specs.declared.Edition.{Edition}
 use Rattle.edition.specs.declared.Kind.TheVariants.{Boolean, String}
 use Rattle.edition.specs.declared.Place.{Place}
@@ -36,8 +36,8 @@ string_line e f p = line_of (name_of String p) (λ q. 61 ∷ shown_content (byte
 -- the k-th capability of the edition, from 0: its booleans, its numbers, then its strings
 unfoldable pub capability_line : Edition → List ℕ → ℕ → List ℕ
 capability_line e f k =
-    if ltb k e.booleans then boolean_line e f (place k)
-    else if ltb k (e.booleans + e.numbers) then number_line e f (place (k - e.booleans))
+    when ltb k e.booleans then boolean_line e f (place k)
+    else when ltb k (e.booleans + e.numbers) then number_line e f (place (k - e.booleans))
     else string_line e f (place (k - (e.booleans + e.numbers)))
 
 -- how many capabilities are shown; none of a refused file

@@ -1,5 +1,7 @@
 // The lines that show a compiled file in an edition: its names and each capability. The caller opens the file, once
 // for all lines. Proved: each line is the one of specs/Lines.antt. Assumed: nothing.
+#![tactic(auto)]
+
 ghost use Rattle.std.specs.Prelude.{◌≡◌, ◌∷◌, ◌++◌, ◌+◌, ◌*◌, ◌≤◌, length};
 ghost use Rattle.entry.specs.Asking.{opening, asking_names};
 ghost use Rattle.entry.specs.Says.{says_opened, says_names};

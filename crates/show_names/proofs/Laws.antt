@@ -4,16 +4,17 @@ use mathlib.Core.Path.{◌≡◌, refl, sym, ap, subst, ◌∙◌}
 use mathlib.Core.Bool.{Bool, true, false}
 use mathlib.Core.List.{List, [], ◌∷◌, ◌++◌, map, append_assoc, append-nil}
 use Prim.Native.Nat.{ℕ, zero, suc, ◌+◌, ◌-◌, ◌*◌, ◌/◌, ◌%◌, ◌^◌, ◌≤◌, ◌<◌}
-use native.Mathlib.Nat.{pow-suc, one-le-pow}
+use native.Mathlib.Nat.{le_refl, pow-suc, one-le-pow}
 use native.Mathlib.Omega.{arith}
 use lib.ListN.{length, get_or, set, take, length-append, get_or-map}
 use borrow.Author.Tests.{eq-eqb, ne_eqb, lt-ltb}
 use Rattle.io.specs.Counts.{IsPrefixLen}
 use Rattle.io.specs.Digits.{IsDigitCount}
 use Rattle.io.specs.Digits.{last_digits as lastDigits}
-use Rattle.base.specs.If.{if◌then◌else◌}
+use Rattle.base.specs.If.{when◌then◌else◌}
 use Rattle.base.specs.Answer.{refused, gives}
 use Rattle.base.specs.Overwrite.{put_at}
+use Rattle.base.proofs.IfLaws.{below_or}
 use Rattle.base.proofs.OverwriteLaws.{length_put, put_nil, put_store}
 use Rattle.word.specs.Word.{word, bytes}
 use Rattle.edition.specs.declared.Kind.{Kind}
@@ -25,7 +26,6 @@ use Rattle.names.specs.Naming.{packed, before_nul, unpacked, naming}
 use Rattle.expansion_laws.specs.Digits.{digits_one, digits_more}
 use Rattle.shown.specs.Puts.{Puts}
 use Rattle.shown.proofs.PutsLaws.{puts_most, puts_then}
-use Rattle.ti_files.proofs.Laws.{digits_most_lem}
 use Rattle.show_names.specs.Naming.{decimal, kind_word, name_of, name_room}
 
 -- ---- a name's bytes from its number
@@ -118,8 +118,8 @@ module _ (k : Kind) (p : Place) where
   unfolding naming name_of
   name_packed w e = by_test (knows (length (names_of k)) p) e
     where
-      by_test : (t : Bool) → gives w ≡ (if t then gives (packed (get_or (names_of k) p.0 [])) else refused 17 [])
-          → unpacked w ≡ (if t then get_or (names_of k) p.0 [] else kind_word k ++ decimal p.0)
+      by_test : (t : Bool) → gives w ≡ (when t then gives (packed (get_or (names_of k) p.0 [])) else refused 17 [])
+          → unpacked w ≡ (when t then get_or (names_of k) p.0 [] else kind_word k ++ decimal p.0)
       by_test true q = let n : w ≡ packed (get_or (names_of k) p.0 []) = cc in ap unpacked n ∙ name_known k p.0
       by_test false q = absurd (let z : ◌≡◌ {A = ℕ} 0 1 = cc in (let y : ⊥ = omega arith in y))
 
@@ -128,12 +128,31 @@ module _ (k : Kind) (p : Place) where
   unfolding naming name_of
   name_beyond e = by_test (knows (length (names_of k)) p) e
     where
-      by_test : (t : Bool) → refused 17 [] ≡ (if t then gives (packed (get_or (names_of k) p.0 [])) else refused 17 [])
-          → kind_word k ++ decimal p.0 ≡ (if t then get_or (names_of k) p.0 [] else kind_word k ++ decimal p.0)
+      by_test : (t : Bool) → refused 17 [] ≡ (when t then gives (packed (get_or (names_of k) p.0 [])) else refused 17 [])
+          → kind_word k ++ decimal p.0 ≡ (when t then get_or (names_of k) p.0 [] else kind_word k ++ decimal p.0)
       by_test true q = absurd (let z : ◌≡◌ {A = ℕ} 0 1 = cc in (let y : ⊥ = omega arith in y))
       by_test false q = refl
 
 -- ---- decimal numbers
+
+-- ten to the 20th or more
+powers : (j : ℕ) → 100000000000000000000 ≤ 10 ^ (j + 20)
+powers zero = le_refl 100000000000000000000
+powers (suc j) =
+    let h = powers j in
+    let e : suc j + 20 ≡ suc (j + 20) = omega arith in
+    rw (e, pow-suc 10 (j + 20)) (omega arith)
+
+-- a 64-bit number has at most 20 digits
+pub digits_most_lem : (n k : ℕ) → n < 2 ^ 64 → IsDigitCount 10 1 n k → k ≤ 20
+digits_most_lem n k h f =
+    below_or k 21 (λ l. omega arith)
+    (λ g.
+    let e : k - 1 ≡ (k - 21) + 20 = omega arith in
+    let p : 10 ^ (k - 1) ≤ n = f.2 (omega arith) in
+    let q : 10 ^ ((k - 21) + 20) ≤ n = rw e at p in
+    let r = powers (k - 21) in
+    omega arith)
 
 pub digits_of : (k n : ℕ) → IsDigitCount 10 1 n k → lastDigits 10 k n ≡ decimal n
 digits_of zero n f = absurd (omega (arith, f.0))

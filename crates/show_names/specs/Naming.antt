@@ -1,7 +1,7 @@
 -- Capabilities as `ti show` names them, and decimal numbers.
 -- Assumes nothing.
 use Rattle.std.specs.Prelude.{List, [], ◌++◌, ℕ, length, get_or}
-use Rattle.base.specs.If.{if◌then◌else◌}
+use Rattle.base.specs.If.{when◌then◌else◌}
 use Rattle.edition.specs.declared.Kind.{Kind}
 use Rattle.edition.specs.declared.Kind.TheVariants as Kinds
 use Rattle.edition.specs.declared.Place.{Place}
@@ -21,7 +21,7 @@ kind_word Kinds.String = ascii "string "
 
 -- the name at a place of a kind's list; where the list has none, the kind and the place
 unfoldable pub name_of : Kind → Place → List ℕ
-name_of k p = if knows (length (names_of k)) p then get_or (names_of k) p.0 [] else kind_word k ++ decimal p.0
+name_of k p = when knows (length (names_of k)) p then get_or (names_of k) p.0 [] else kind_word k ++ decimal p.0
 
 -- room for either: a name has at most 8 bytes, a kind's word too, and a place at most 20 digits
 abbrev pub name_room : ℕ

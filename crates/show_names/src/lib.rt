@@ -1,6 +1,8 @@
 // Puts what lines are made of: texts, decimal numbers, and capabilities by their names or, where the list has no name
 // at the place, by kind and place. Proved: each function puts what its contract says, by specs/Naming.antt. Assumed:
 // nothing.
+#![tactic(auto)]
+
 ghost use Rattle.std.specs.Prelude.{◌++◌, ◌+◌, ◌≤◌, length};
 ghost use Rattle.names.specs.Naming.{unpacked};
 ghost use Rattle.shown.specs.Puts.{Puts};

@@ -8,14 +8,14 @@ use native.Mathlib.Omega.{arith}
 use native.Mathlib.Numerals.{add-one}
 use lib.ListN.{length, get_or, set, take}
 use lib.Seq.{take-suc, take-length}
-use Rattle.base.specs.If.{if◌then◌else◌}
+use Rattle.base.specs.If.{when◌then◌else◌}
 use Rattle.base.specs.Overwrite.{put_at}
 use Rattle.base.proofs.OverwriteLaws.{put_set}
 use Rattle.shown.specs.Puts.{Puts}
 use Rattle.shown.proofs.PutsLaws.{puts_none, puts_then}
 use Rattle.shown.specs.Shown.{is_plain, octal, shown_byte, shown}
 
-most_by : (c : ℕ) (t : Bool) → length (if t then c ∷ [] else octal c) ≤ 4
+most_by : (c : ℕ) (t : Bool) → length (when t then c ∷ [] else octal c) ≤ 4
 unfolding octal
 most_by c true = omega arith
 most_by c false = omega arith

@@ -3,7 +3,7 @@
 use Rattle.std.specs.Prelude.{ℕ, ◌-◌, ◌%◌, ◌^◌, Bool, false, ℤ, pos, negsuc, ◌+ℤ◌, ◌-ℤ◌, ◌*ℤ◌, ◌==◌, int_div, int_rem}
 use Rattle.std.specs.Int.{w32}
 use Rattle.std.proofs.Common.{to_z}
-use Rattle.base.specs.If.{if◌then◌else◌}
+use Rattle.base.specs.If.{when◌then◌else◌}
 
 abbrev pub is_zero : ℤ → Bool
 is_zero (pos n) = n == 0
@@ -35,8 +35,8 @@ multiply a b = wrap (a *ℤ b)
 -- "Division truncates to zero; a zero divisor gives 0; -2,147,483,648 by -1 gives itself"
 unfoldable pub divide : ℤ → ℤ → ℤ
 unfolding wrap
-divide a b = if is_zero b then pos 0 else wrap (int_div a b)
+divide a b = when is_zero b then pos 0 else wrap (int_div a b)
 
 -- "remainder 0; a remainder other than 0 has the left operand's sign"; a zero divisor gives 0
 unfoldable pub remainder : ℤ → ℤ → ℤ
-remainder a b = if is_zero b then pos 0 else int_rem a b
+remainder a b = when is_zero b then pos 0 else int_rem a b

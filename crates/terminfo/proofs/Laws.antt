@@ -10,7 +10,7 @@ use lib.IntN.{ℤ}
 use borrow.Author.Tests.{le-leb, lt-leb}
 use Rattle.edition.specs.declared.Edition.{Edition}
 use Rattle.edition.specs.declared.Place.{Place}
-use Rattle.base.specs.If.{if◌then◌else◌}
+use Rattle.base.specs.If.{when◌then◌else◌}
 use Rattle.base.specs.Answer.{Answer, refused, gives, map_answer}
 use Rattle.entry.specs.Asking.{asking_string}
 use Rattle.entry.specs.Reading.{bytes_of}
@@ -75,12 +75,12 @@ first_of (x ∷ xs) = x
 
 abbrev refusal_of : ℕ → List ℕ → Expansion
 refusal_of n v =
-    if eqb n 17 then E.Place
-    else if eqb n 1 then E.Length
-    else if eqb n 14 then E.Malformed (first_of v)
-    else if eqb n 15 then E.Empty (first_of v)
-    else if eqb n 16 then E.Full (first_of v)
-    else if eqb n 21 then E.Kind (first_of v)
+    when eqb n 17 then E.Place
+    else when eqb n 1 then E.Length
+    else when eqb n 14 then E.Malformed (first_of v)
+    else when eqb n 15 then E.Empty (first_of v)
+    else when eqb n 16 then E.Full (first_of v)
+    else when eqb n 21 then E.Kind (first_of v)
     else E.Room (first_of v)
 
 abbrev answer_of : Answer (State Counts) → ExpandedString

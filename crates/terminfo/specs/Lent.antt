@@ -3,7 +3,7 @@
 use Rattle.std.specs.Prelude.{◌≡◌, not, List, [], ℕ, leb, ℤ, pos, replicate}
 use Rattle.edition.specs.declared.Edition.{Edition}
 use Rattle.edition.specs.declared.Place.{Place}
-use Rattle.base.specs.If.{if◌then◌else◌}
+use Rattle.base.specs.If.{when◌then◌else◌}
 use Rattle.base.specs.Answer.{Answer, refused, gives, map_answer}
 use Rattle.base.specs.Overwrite.{put_at}
 use Rattle.entry.specs.declared.Part.{Part}
@@ -34,8 +34,8 @@ expanding_asked f arguments lent size at (gives (present q)) =
 -- the string at place p of file f gives
 unfoldable pub expanding_at : Edition → List ℕ → Place → List Argument → List ℕ → ℕ → ℕ → Answer (State Expanding)
 expanding_at e f p arguments lent size at =
-    if not (leb at size) then refused 17 []
-    else if not (each_passes (lies_in lent) arguments) then refused 17 []
+    when not (leb at size) then refused 17 []
+    else when not (each_passes (lies_in lent) arguments) then refused 17 []
     else expanding_asked f arguments lent size at (asking_string e f p)
 
 -- "bytes before it and after the output stay"; a refusal, an absent and a cancelled string change nothing

@@ -8,7 +8,7 @@ use native.Mathlib.Omega.{arith}
 use lib.Dec.{leb}
 use lib.ListN.{length, get_or}
 use borrow.Author.Tests.{leb-true}
-use Rattle.base.specs.If.{if◌then◌else◌}
+use Rattle.base.specs.If.{when◌then◌else◌}
 use Rattle.base.specs.Scan.{every}
 use Rattle.base.specs.Tabulate.{tabulate}
 use Rattle.edition.specs.declared.Edition.{Edition}
@@ -83,14 +83,14 @@ Bounded a = (n : ℕ) → refused 8 (n ∷ []) ≡ a → n ≤ file_most
 abbrev NoRoom : {A : Type 0} → Answer A → Type 0
 NoRoom a = (v : List ℕ) → refused 8 v ≡ a → ⊥
 
-no_room_if : {A : Type 0} (t : Bool) (k : ℕ) (a : Answer A) → (◌≡◌ {A = ℕ} 8 k → ⊥) → NoRoom a → NoRoom (if not t then refused k [] else a)
+no_room_if : {A : Type 0} (t : Bool) (k : ℕ) (a : Answer A) → (◌≡◌ {A = ℕ} 8 k → ⊥) → NoRoom a → NoRoom (when not t then refused k [] else a)
 no_room_if true k a h r = r
 no_room_if false k a h r = λ v e. h (cc)
 
 no_room_gives : {A : Type 0} (x : A) → NoRoom (gives x)
 no_room_gives x v e = let z : ◌≡◌ {A = ℕ} 0 1 = cc in omega arith
 
-bounded_if : {A : Type 0} (t : Bool) (k : ℕ) (a : Answer A) → (◌≡◌ {A = ℕ} 8 k → ⊥) → (t ≡ true → Bounded a) → Bounded (if not t then refused k [] else a)
+bounded_if : {A : Type 0} (t : Bool) (k : ℕ) (a : Answer A) → (◌≡◌ {A = ℕ} 8 k → ⊥) → (t ≡ true → Bounded a) → Bounded (when not t then refused k [] else a)
 bounded_if true k a h r = r refl
 bounded_if false k a h r = λ n e. absurd (h (cc))
 
@@ -98,10 +98,10 @@ bounded_then : {A B : Type 0} (a : Answer A) (b : Answer B) → NoRoom a → Bou
 bounded_then (refused k v) b r c n e = absurd (r (n ∷ []) (cc))
 bounded_then (gives x) b r c n e = c n e
 
-bounded_room : {A : Type 0} (size room : ℕ) (x : A) → size ≤ file_most → Bounded (if not (leb size room) then refused 8 (size ∷ []) else gives x)
+bounded_room : {A : Type 0} (size room : ℕ) (x : A) → size ≤ file_most → Bounded (when not (leb size room) then refused 8 (size ∷ []) else gives x)
 bounded_room size room x l = by_test (leb size room)
   where
-    by_test : (t : Bool) → Bounded (if not t then refused 8 (size ∷ []) else gives x)
+    by_test : (t : Bool) → Bounded (when not t then refused 8 (size ∷ []) else gives x)
     by_test true n e = absurd (no_room_gives x (n ∷ []) e)
     by_test false n e = let z : n ≡ size = cc in omega arith
 

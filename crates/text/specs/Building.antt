@@ -2,7 +2,7 @@
 -- and the entry that it comes to.
 -- Assumes nothing.
 use Rattle.std.specs.Prelude.{Bool, false, ◌||◌, List, [], ◌∷◌, map, ℕ, suc, leb, length, get_or}
-use Rattle.base.specs.If.{if◌then◌else◌}
+use Rattle.base.specs.If.{when◌then◌else◌}
 use Rattle.base.specs.Tabulate.{tabulate}
 use Rattle.base.specs.Answer.{Answer, refused, gives, and_then}
 use Rattle.edition.specs.declared.Edition.{Edition}
@@ -39,7 +39,7 @@ pub data Having : Type 0 where
 -- "of two with one name the earlier counts": the first that has the name, where the first of these is the k-th
 unfoldable pub having_from : ℕ → List ℕ → List Description → Having
 having_from k n [] = nobody
-having_from k n (d ∷ ds) = if has_name n d.names then numbered k else having_from (suc k) n ds
+having_from k n (d ∷ ds) = when has_name n d.names then numbered k else having_from (suc k) n ds
 
 abbrev pub having : List ℕ → List Description → Having
 having n ds = having_from 0 n ds
@@ -101,7 +101,7 @@ outcome e ds d = built (over_in e) (own_of e ds) (uses_of ds) d
 -- "names total": all names of a header, with the bars
 unfoldable pub totals : List Description → Answer Unit
 totals [] = gives tt
-totals (d ∷ ds) = if leb (length d.names) given_names_most then totals ds else refused 13 (d.place ∷ [])
+totals (d ∷ ds) = when leb (length d.names) given_names_most then totals ds else refused 13 (d.place ∷ [])
 
 -- "The compile call names the one wanted likewise (the program: the text's first)"
 pub data Wanted : Type 0 where

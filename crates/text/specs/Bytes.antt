@@ -3,7 +3,7 @@
 -- Assumes nothing.
 use Rattle.std.specs.Prelude.{Bool, ◌&&◌, ◌||◌, not, List, ℕ, ◌-◌, eqb, leb, ltb, length, get_or}
 use Prim.Native.Char.{Char, code}
-use Rattle.base.specs.If.{if◌then◌else◌}
+use Rattle.base.specs.If.{when◌then◌else◌}
 use Rattle.base.specs.Scan.{scan}
 use Rattle.text.specs.declared.NumberBase.{NumberBase}
 use Rattle.text.specs.declared.NumberBase.TheVariants as B
@@ -41,9 +41,9 @@ is_last_name b = between 32 126 b && not (b is "," || b is "|")
 -- the value of a digit of any base up to 16; 16 for a byte that is none
 unfoldable pub digit_of : ℕ → ℕ
 digit_of b =
-    if between (code "0") (code "9") b then b - code "0"
-    else if between (code "A") (code "F") b then b - (code "A" - 10)
-    else if between (code "a") (code "f") b then b - (code "a" - 10)
+    when between (code "0") (code "9") b then b - code "0"
+    else when between (code "A") (code "F") b then b - (code "A" - 10)
+    else when between (code "a") (code "f") b then b - (code "a" - 10)
     else 16
 
 abbrev pub base_of : NumberBase → ℕ

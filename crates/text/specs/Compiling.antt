@@ -1,7 +1,7 @@
 -- What compiling gives (document 01: Source text; Numbers of refusal, order of text; document 02, 2026-01 and 2026-02).
 -- Assumes nothing.
 use Rattle.std.specs.Prelude.{not, List, [], ◌∷◌, ℕ, leb, length}
-use Rattle.base.specs.If.{if◌then◌else◌}
+use Rattle.base.specs.If.{when◌then◌else◌}
 use Rattle.edition.specs.declared.Edition.{Edition}
 use Rattle.edition.specs.Edition.{ok_edition}
 use Rattle.entry.specs.Limits.{given_names_most}
@@ -25,14 +25,14 @@ fitted room (gives x) = fitting room (encode x)
 -- It is not too large up to 64, 64 and 512, and what it counts beyond the names is absent
 unfoldable pub compiling : Edition → List ℕ → Wanted → ℕ → Answer (List ℕ)
 compiling e t w room =
-    if not (ok_edition e) then refused 3 []
-    else if not (leb (length t) text_most) then refused 1 []
+    when not (ok_edition e) then refused 3 []
+    else when not (leb (length t) text_most) then refused 1 []
     else fitted room (building_text e t w)
 
 -- the same for an entry whose names are the text's only ones: "then names total above 127 (13), 9, 8"
 unfoldable pub fitting_named : ℕ → Entry → Answer (List ℕ)
 fitting_named room x =
-    if not (leb (length x.names) given_names_most) then refused 13 (0 ∷ [])
+    when not (leb (length x.names) given_names_most) then refused 13 (0 ∷ [])
     else fitting room (encode x)
 
 -- ---- what each case of an answer says

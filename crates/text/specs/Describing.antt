@@ -1,8 +1,9 @@
 -- What a text says, field by field and description by description (document 01: Source text; Numbers of refusal, 10,
 -- 11, 13; document 02, 2026-02).
 -- Assumes nothing.
-use Rattle.std.specs.Prelude.{List, [], ◌∷◌, ◌++◌, ℕ, zero, suc, ◌+◌, ◌-◌, leb, length, get_or, set, take, drop, replicate}
-use Rattle.base.specs.If.{if◌then◌else◌}
+use Rattle.std.specs.Prelude.{List, [], ◌∷◌, ◌++◌, ℕ, zero, suc, ◌+◌, ◌-◌, leb, length, get_or, set, take, drop}
+use Rattle.std.specs.Prelude.{replicate}
+use Rattle.base.specs.If.{when◌then◌else◌}
 use Rattle.base.specs.Loop.{Turn, go, stop, loop}
 use Rattle.edition.specs.declared.Edition.{Edition}
 use Rattle.edition.specs.declared.Place.{Place}
@@ -62,7 +63,7 @@ string_by t p F.Cancelled = gives cancelled
 string_by t p (F.Number v) = refused 11 (p ∷ [])
 string_by t p F.LargeNumber = refused 11 (p ∷ [])
 string_by t p (F.String i n) =
-    if leb n content_most then gives (present (read_bytes (read_at t i))) else refused 13 (p ∷ [])
+    when leb n content_most then gives (present (read_bytes (read_at t i))) else refused 13 (p ∷ [])
 
 unfoldable pub saying_of : List ℕ → ℕ → FieldForm → Found → Answer Saying
 saying_of t p f (N.Boolean q) = map_answer (boolean q) (boolean_by p f)
@@ -77,12 +78,13 @@ use_by t p F.Boolean = refused 11 (p ∷ [])
 use_by t p F.Cancelled = refused 11 (p ∷ [])
 use_by t p (F.Number v) = refused 11 (p ∷ [])
 use_by t p F.LargeNumber = refused 11 (p ∷ [])
-use_by t p (F.String i n) = if leb n content_most then gives (uses (read_bytes (read_at t i))) else refused 13 (p ∷ [])
+use_by t p (F.String i n) = when leb n content_most then gives (uses (read_bytes (read_at t i)))
+    else refused 13 (p ∷ [])
 
 -- a field that isn't dropped: "by 10, 11, 13"
 unfoldable pub named_saying : Edition → List ℕ → ℕ → List ℕ → FieldForm → Answer Saying
 named_saying e t p name f =
-    if same_bytes name (ascii "use") then use_by t p f else saying_of t p f (looking_up e name)
+    when same_bytes name (ascii "use") then use_by t p f else saying_of t p f (looking_up e name)
 
 -- what a field says, and the place past it
 pub record Judging : Type 0 where
@@ -92,7 +94,7 @@ pub record Judging : Type 0 where
 abbrev pub judging_of : Edition → List ℕ → ℕ → Field → Answer Judging
 judging_of e t p (Right dropped i k f next) =
     map_answer (λ (s : Saying). record { saying = s; next = next })
-    (if dropped then gives nothing else named_saying e t p (take (k - i) (drop i t)) f)
+    (when dropped then gives nothing else named_saying e t p (take (k - i) (drop i t)) f)
 judging_of e t p Malformed = refused 10 (p ∷ [])
 
 -- the field whose first byte is at p

@@ -1,9 +1,10 @@
 -- The header (document 01: Source text): "starts in column 1, has at least two names parted by `|`, ends in a comma,
 -- then only white space to the line's end; the text's end closes a line too".
 -- Assumes nothing.
-use Rattle.std.specs.Prelude.{Bool, false, ◌&&◌, ◌||◌, not, List, [], ◌∷◌, ℕ, ◌+◌, ◌-◌, leb, ltb, length, get_or, take, drop}
+use Rattle.std.specs.Prelude.{Bool, false, ◌&&◌, ◌||◌, not, List, [], ◌∷◌, ℕ, ◌+◌, ◌-◌, leb, ltb, length, get_or}
+use Rattle.std.specs.Prelude.{take, drop}
 use Prim.Native.Char.{code}
-use Rattle.base.specs.If.{if◌then◌else◌}
+use Rattle.base.specs.If.{when◌then◌else◌}
 use Rattle.base.specs.Scan.{every}
 use Rattle.names.specs.Names.{parted}
 use Rattle.text.specs.declared.ByteClass.{ByteClass}
@@ -48,10 +49,10 @@ names_to t i c = take (c - i) (drop i t)
 -- the header whose comma is at c, which is the text's end where there is none
 abbrev pub header_to : List ℕ → ℕ → ℕ → Header
 header_to t i c =
-    if leb (length t) c then Malformed
-    else if not (right_names (names_in (names_to t i c))) then Malformed
-    else if not (line_ends t (run_end C.Blank t (c + 1))) then Malformed
-    else if long_alias (names_in (names_to t i c)) then LongAlias
+    when leb (length t) c then Malformed
+    else when not (right_names (names_in (names_to t i c))) then Malformed
+    else when not (line_ends t (run_end C.Blank t (c + 1))) then Malformed
+    else when long_alias (names_in (names_to t i c)) then LongAlias
     else Right c
 
 unfoldable pub header_at : List ℕ → ℕ → Header

@@ -2,7 +2,7 @@
 -- byte like any other.
 -- Assumes nothing.
 use Rattle.std.specs.Prelude.{List, ℕ, ◌+◌, ◌-◌, eqb, leb, length, get_or}
-use Rattle.base.specs.If.{if◌then◌else◌}
+use Rattle.base.specs.If.{when◌then◌else◌}
 use Rattle.base.specs.Loop.{Turn, go, stop, loop}
 use Rattle.text.specs.declared.ByteClass.TheVariants as C
 use Rattle.text.specs.declared.Line.{Line}
@@ -13,10 +13,10 @@ use Rattle.text.specs.Bytes.{◌is◌, run_end}
 -- skipped"
 abbrev pub line_turn_at : List ℕ → ℕ → ℕ → Turn ℕ Line
 line_turn_at t i j =
-    if leb (length t) j then stop End
-    else if get_or t j 0 is "\n" then go (j + 1)
-    else if get_or t j 0 is "#" then go (run_end C.Line t j + 1)
-    else if eqb j i then stop (Column i)
+    when leb (length t) j then stop End
+    else when get_or t j 0 is "\n" then go (j + 1)
+    else when get_or t j 0 is "#" then go (run_end C.Line t j + 1)
+    else when eqb j i then stop (Column i)
     else stop (Indented j)
 
 unfoldable pub line_turn : List ℕ → ℕ → Turn ℕ Line
@@ -29,8 +29,8 @@ line_at t i = loop (λ (j : ℕ). length t - j) (line_turn t) End i
 -- from the place past a comma, where the first nonblank is at j: the line may end here, or hold another field
 abbrev pub next_from : List ℕ → ℕ → Line
 next_from t j =
-    if leb (length t) j then End
-    else if get_or t j 0 is "\n" then line_at t (j + 1)
+    when leb (length t) j then End
+    else when get_or t j 0 is "\n" then line_at t (j + 1)
     else Indented j
 
 unfoldable pub next_at : List ℕ → ℕ → Line

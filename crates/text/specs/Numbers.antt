@@ -2,7 +2,7 @@
 -- 99 digits)".
 -- Assumes nothing.
 use Rattle.std.specs.Prelude.{◌&&◌, ◌||◌, List, ℕ, zero, suc, ◌+◌, ◌-◌, ◌*◌, eqb, leb, get_or}
-use Rattle.base.specs.If.{if◌then◌else◌}
+use Rattle.base.specs.If.{when◌then◌else◌}
 use Rattle.entry.specs.Limits.{number_most}
 use Rattle.text.specs.declared.NumberBase.{NumberBase}
 use Rattle.text.specs.declared.NumberBase.TheVariants.{Octal, Decimal, Hexadecimal}
@@ -25,12 +25,12 @@ with_digits base t i (suc n) v = with_digits base t (suc i) n (v * base + digit_
 
 -- a number of value v and n digits
 unfoldable pub number_form : ℕ → ℕ → FieldForm
-number_form v n = if leb v number_most && leb n digits_most then F.Number v else F.LargeNumber
+number_form v n = when leb v number_most && leb n digits_most then F.Number v else F.LargeNumber
 
 -- the digits from i to e
 unfoldable pub digits_in : NumberBase → List ℕ → ℕ → ℕ → Formed
 digits_in base t i e =
-    if eqb e i then Malformed else Right (number_form (with_digits (base_of base) t i (e - i) 0) (e - i)) e
+    when eqb e i then Malformed else Right (number_form (with_digits (base_of base) t i (e - i) 0) (e - i)) e
 
 abbrev pub digits_at : NumberBase → List ℕ → ℕ → Formed
 digits_at base t i = digits_in base t i (run_end (C.Digit base) t i)
@@ -38,6 +38,7 @@ digits_at base t i = digits_in base t i (run_end (C.Digit base) t i)
 -- "decimal, 0 octal, 0x or 0X hex"
 unfoldable pub number_at : List ℕ → ℕ → Formed
 number_at t i =
-    if get_or t i 0 is "0" then
-    (if get_or t (i + 1) 0 is "x" || get_or t (i + 1) 0 is "X" then digits_at Hexadecimal t (i + 2) else digits_at Octal t i)
+    when get_or t i 0 is "0" then
+    (when get_or t (i + 1) 0 is "x" || get_or t (i + 1) 0 is "X" then digits_at Hexadecimal t (i + 2)
+    else digits_at Octal t i)
     else digits_at Decimal t i

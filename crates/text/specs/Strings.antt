@@ -2,7 +2,7 @@
 -- Assumes nothing.
 use Rattle.std.specs.Prelude.{Bool, ◌||◌, List, [], ◌∷◌, ◌++◌, ℕ, ◌+◌, ◌-◌, ◌*◌, ◌%◌, eqb, leb, ltb, length, get_or}
 use Prim.Native.Char.{code}
-use Rattle.base.specs.If.{if◌then◌else◌}
+use Rattle.base.specs.If.{when◌then◌else◌}
 use Rattle.base.specs.Loop.{Turn, go, stop, loop}
 use Rattle.text.specs.declared.ByteClass.TheVariants as C
 use Rattle.text.specs.declared.StringItem.{StringItem}
@@ -14,7 +14,7 @@ use Rattle.text.specs.Bytes.{◌is◌, between, is_blank, digit_of, run_end}
 -- the value beside a byte in a list of pairs, 0 where it isn't there
 abbrev pub beside : ℕ → List (ℕ × ℕ) → ℕ
 beside b [] = 0
-beside b (p ∷ ps) = if eqb b p.0 then p.1 else beside b ps
+beside b (p ∷ ps) = when eqb b p.0 then p.1 else beside b ps
 
 -- "`\E \e` 27, `\n \l` 10, `\r` 13, `\t` 9, `\b` 8, `\f` 12, `\s` 32, `\^ \\ \, \:` themselves"; 0 for any other byte
 unfoldable pub letter_of : ℕ → ℕ
@@ -39,8 +39,8 @@ letter_of b =
 -- on, of which the second and the third may be none
 unfoldable pub octal_of : ℕ → ℕ → ℕ → ℕ → StringItem
 octal_of a b c i =
-    if ltb b 8 then
-    (if ltb c 8 then (if leb (a * 64 + b * 8 + c) 255 then Byte (a * 64 + b * 8 + c) (i + 3) else Malformed)
+    when ltb b 8 then
+    (when ltb c 8 then (when leb (a * 64 + b * 8 + c) 255 then Byte (a * 64 + b * 8 + c) (i + 3) else Malformed)
     else Byte (a * 8 + b) (i + 2))
     else Byte a (i + 1)
 
@@ -50,8 +50,8 @@ digit_at t i = digit_of (get_or t i 0)
 -- behind a backslash
 unfoldable pub escape_at : List ℕ → ℕ → StringItem
 escape_at t i =
-    if ltb (digit_at t i) 8 then octal_of (digit_at t i) (digit_at t (i + 1)) (digit_at t (i + 2)) i
-    else if eqb (letter_of (get_or t i 0)) 0 then Malformed
+    when ltb (digit_at t i) 8 then octal_of (digit_at t i) (digit_at t (i + 1)) (digit_at t (i + 2)) i
+    else when eqb (letter_of (get_or t i 0)) 0 then Malformed
     else Byte (letter_of (get_or t i 0)) (i + 1)
 
 -- "`^` with codes 64 to 95 or 97 to 122"
@@ -61,27 +61,27 @@ is_control b = between 64 95 b || between 97 122 b
 -- behind a caret: "code mod 32; `^?` 127"
 unfoldable pub caret_at : List ℕ → ℕ → StringItem
 caret_at t i =
-    if get_or t i 0 is "?" then Byte 127 (i + 1)
-    else if is_control (get_or t i 0) then Byte (get_or t i 0 % 32) (i + 1)
+    when get_or t i 0 is "?" then Byte 127 (i + 1)
+    else when is_control (get_or t i 0) then Byte (get_or t i 0 % 32) (i + 1)
     else Malformed
 
 -- "A line end and the white space after it, of which there must be some, are removed"
 unfoldable pub line_end_at : List ℕ → ℕ → StringItem
-line_end_at t i = if is_blank (get_or t i 0) then Removed (run_end C.Blank t (i + 1)) else Malformed
+line_end_at t i = when is_blank (get_or t i 0) then Removed (run_end C.Blank t (i + 1)) else Malformed
 
 -- "Strings hold codes 32 to 126 up to an unescaped comma"
 unfoldable pub string_item_at : List ℕ → ℕ → StringItem
 string_item_at t i =
-    if get_or t i 0 is "," then End
-    else if get_or t i 0 is "\\" then escape_at t (i + 1)
-    else if get_or t i 0 is "^" then caret_at t (i + 1)
-    else if get_or t i 0 is "\n" then line_end_at t (i + 1)
-    else if between 32 126 (get_or t i 0) then Byte (get_or t i 0) (i + 1)
+    when get_or t i 0 is "," then End
+    else when get_or t i 0 is "\\" then escape_at t (i + 1)
+    else when get_or t i 0 is "^" then caret_at t (i + 1)
+    else when get_or t i 0 is "\n" then line_end_at t (i + 1)
+    else when between 32 126 (get_or t i 0) then Byte (get_or t i 0) (i + 1)
     else Malformed
 
 -- "A result of 0 is stored as 128"
 unfoldable pub stored_byte : ℕ → ℕ
-stored_byte b = if eqb b 0 then 128 else b
+stored_byte b = when eqb b 0 then 128 else b
 
 -- a string read to the place at, with the bytes that it stands for so far
 pub record Reading : Type 0 where

@@ -4,7 +4,7 @@
 use Rattle.std.specs.Prelude.{◌≡◌, refl, Bool, true, false, ◌||◌, not, ℕ, ◌≤◌, eqb, leb, length, get_or}
 use Rattle.std.proofs.Common.{sym, ap, ◌∙◌, subst, arith, lit≤, leb-true, le-leb, ne_eqb, ltb-false}
 use mathlib.Core.List.{List, [], ◌∷◌}
-use Rattle.base.specs.If.{if◌then◌else◌}
+use Rattle.base.specs.If.{when◌then◌else◌}
 use Rattle.base.specs.Answer.{Answer, refused, gives, and_then}
 use Rattle.base.specs.Tabulate.{Each}
 use Rattle.base.proofs.IfLaws.{true_false}
@@ -130,7 +130,7 @@ record Accepts (e : Edition) (t : List ℕ) (w : Wanted) : Type 0 where
   describes : building_text e t w ≡ gives entry
 
 passed : {A : Type 0} (b : Bool) (n : ℕ) (v : List ℕ) (a : Answer A) → (eqb n 9 || eqb n 8) ≡ false
-    → accepted (if not b then refused n v else a) ≡ true → (b ≡ true) × (accepted a ≡ true)
+    → accepted (when not b then refused n v else a) ≡ true → (b ≡ true) × (accepted a ≡ true)
 passed true n v a q w = (refl, w)
 passed false n v a q w = true_false (sym w ∙ q)
 
@@ -156,8 +156,8 @@ fits E t w x o l q room =
     rw (o, le-leb (length t) text_most l, q)
     (by_size (leb (length (encode x)) file_most) (leb (length (encode x)) room))
   where
-    by_size : (a b : Bool) → accepted (if not a then refused 9 []
-        else if not b then refused 8 (length (encode x) ∷ []) else gives (encode x)) ≡ true
+    by_size : (a b : Bool) → accepted (when not a then refused 9 []
+        else when not b then refused 8 (length (encode x) ∷ []) else gives (encode x)) ≡ true
     by_size false b = refl
     by_size true false = refl
     by_size true true = refl

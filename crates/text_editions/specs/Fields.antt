@@ -5,7 +5,7 @@ use Rattle.std.proofs.Common.{sym, ◌∙◌, subst}
 use Rattle.std.proofs.Math.Path.{ap}
 use Rattle.std.proofs.Math.Bool.{true, false}
 use Rattle.std.proofs.Math.Logic.{inl, inr}
-use Rattle.base.specs.If.{if◌then◌else◌}
+use Rattle.base.specs.If.{when◌then◌else◌}
 use Rattle.base.specs.Answer.{Answer, refused, gives, map_answer}
 use Rattle.base.specs.Tabulate.{Each}
 use Rattle.edition.specs.declared.Edition.{Edition}
@@ -50,7 +50,7 @@ use_known e t p (F.Number v) s w = refused_gives w
 use_known e t p F.LargeNumber s w = refused_gives w
 use_known e t p (F.String i n) s w = by_length (leb n content_most) w
   where
-    by_length : (b : Bool) → (if b then gives (uses (read_bytes (read_at t i))) else refused 13 (p ∷ [])) ≡ gives s
+    by_length : (b : Bool) → (when b then gives (uses (read_bytes (read_at t i))) else refused 13 (p ∷ [])) ≡ gives s
         → Known e s
     by_length true u = subst (Known e) (given_is u) tt
     by_length false u = refused_gives u
@@ -60,7 +60,7 @@ module _ (e : Edition) (t : List ℕ) (p : ℕ) (name : List ℕ) (f : FieldForm
   unfolding named_saying
   named_known w = by_use (same_bytes name (ascii "use")) w
     where
-      by_use : (b : Bool) → (if b then use_by t p f else saying_of t p f (looking_up e name)) ≡ gives s → Known e s
+      by_use : (b : Bool) → (when b then use_by t p f else saying_of t p f (looking_up e name)) ≡ gives s → Known e s
       by_use true u = use_known e t p f s u
       by_use false u = found_known e t p f (looking_up e name) (found_in e name) s u
 
@@ -69,8 +69,8 @@ module _ (e : Edition) (t : List ℕ) (p : ℕ) (name : List ℕ) (f : FieldForm
   unfolding named_saying saying_of
   named_larger E m w = by_use (same_bytes name (ascii "use")) w
     where
-      by_use : (b : Bool) → (if b then use_by t p f else saying_of t p f (looking_up e name)) ≡ gives s
-          → (if b then use_by t p f else saying_of t p f (looking_up E name)) ≡ gives s
+      by_use : (b : Bool) → (when b then use_by t p f else saying_of t p f (looking_up e name)) ≡ gives s
+          → (when b then use_by t p f else saying_of t p f (looking_up E name)) ≡ gives s
       by_use true u = u
       by_use false u =
           elim (larger_means e E m name) [
@@ -79,13 +79,13 @@ module _ (e : Edition) (t : List ℕ) (p : ℕ) (name : List ℕ) (f : FieldForm
           ]
 
 said_known : (e : Edition) (t : List ℕ) (p : ℕ) (dropped : Bool) (name : List ℕ) (f : FieldForm) (s : Saying)
-    → (if dropped then gives nothing else named_saying e t p name f) ≡ gives s → Known e s
+    → (when dropped then gives nothing else named_saying e t p name f) ≡ gives s → Known e s
 said_known e t p true name f s w = subst (Known e) (given_is w) tt
 said_known e t p false name f s w = named_known e t p name f s w
 
 said_larger : (e E : Edition) → NoMore e E → (t : List ℕ) (p : ℕ) (dropped : Bool) (name : List ℕ) (f : FieldForm)
-    (s : Saying) → (if dropped then gives nothing else named_saying e t p name f) ≡ gives s
-    → (if dropped then gives nothing else named_saying E t p name f) ≡ gives s
+    (s : Saying) → (when dropped then gives nothing else named_saying e t p name f) ≡ gives s
+    → (when dropped then gives nothing else named_saying E t p name f) ≡ gives s
 said_larger e E m t p true name f s w = w
 said_larger e E m t p false name f s w = named_larger e t p name f s E m w
 

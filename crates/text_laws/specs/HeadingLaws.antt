@@ -1,13 +1,15 @@
 -- The names of a header.
 -- Assumes nothing.
-use Rattle.std.specs.Prelude.{◌≡◌, refl, true, false, ◌&&◌, ◌||◌, List, [], ◌∷◌, eqb, leb, ltb, length, get_or, take, drop}
-use Rattle.std.proofs.Common.{sym, ◌∙◌, subst, not-suc-le-zero, le_of_suc-le-suc, arith, length-drop, get_or-take, get_or-drop, drop-drop, length-take-le}
+use Rattle.std.specs.Prelude.{◌≡◌, refl, true, false, ◌&&◌, ◌||◌, List, [], ◌∷◌, eqb, leb, ltb}
+use Rattle.std.specs.Prelude.{length, get_or, take, drop}
+use Rattle.std.proofs.Common.{sym, ◌∙◌, subst, not-suc-le-zero, le_of_suc-le-suc, arith}
+use Rattle.std.proofs.Common.{length-drop, get_or-take, get_or-drop, drop-drop, length-take-le}
 use Rattle.std.proofs.Math.Path.{ap}
 use Rattle.std.proofs.Math.Bool.{Bool, not}
 use Prim.Native.Nat.{ℕ, zero, suc, ◌+◌, ◌-◌, ◌≤◌, ◌<◌, suc-le-suc}
 use borrow.Author.Tests.{leb-true, le-leb, eqb-true, eqb-false, eq-eqb, ne_eqb, not-true, not-false, leb-false}
 use borrow.Author.Tests.{lt-leb, lt-ltb, le-ltb}
-use Rattle.base.specs.If.{if◌then◌else◌}
+use Rattle.base.specs.If.{when◌then◌else◌}
 use Rattle.base.proofs.IfLaws.{true_false, and_left, and_right, below_or, is_false}
 use Rattle.base.specs.Scan.{scan, every}
 use Rattle.base.proofs.ScanLaws.{scan_ge, scan_before, scan_fails, every_at, every_all}
@@ -63,7 +65,7 @@ unfolding parted
 parted_some [] = ([], [], refl)
 parted_some (b ∷ s) = by_test (eqb b 124) (parted_some s)
   where
-    by_test : (u : Bool) → Some (names_in s) → Some (if u then [] ∷ names_in s else on_first b (names_in s))
+    by_test : (u : Bool) → Some (names_in s) → Some (when u then [] ∷ names_in s else on_first b (names_in s))
     by_test true r = ([], names_in s, refl)
     by_test false r = (b ∷ r.0, r.1, rw r.2)
 
@@ -182,7 +184,8 @@ module _ (c : ByteClass) (n : List ℕ) (i : ℕ) where
     part_at : (j : ℕ) → i ≤ j → j < e → get_or (take (e - i) (drop i n)) (j - i) 0 ≡ get_or n j 0
     part_at j a b =
         let k : i + (j - i) ≡ j = omega arith in
-        get_or-take (e - i) (drop i n) (j - i) 0 (omega arith) ∙ get_or-drop i n (j - i) 0 ∙ ap (λ (k : ℕ). get_or n k 0) k
+        get_or-take (e - i) (drop i n) (j - i) 0 (omega arith) ∙ get_or-drop i n (j - i) 0
+        ∙ ap (λ (k : ℕ). get_or n k 0) k
 
     part_made : i < e → ((j : ℕ) → i ≤ j → j < e → is_in c (get_or n j 0) ≡ true)
         → made_of c (take (e - i) (drop i n)) ≡ true
@@ -357,7 +360,8 @@ module _ (n : List ℕ) (several : Bool) (i e : ℕ) (q : e ≡ run_end C.Alias 
       let m = byte_within n e 124 refl h in
       record { within = omega arith; rest = sym (rest_bar n several i e q l h m) ∙ s.rest }
 
-  pub names_last : (i < e → get_or n e 0 ≡ 124 → ⊥) → (several && made_of C.LastName (drop i n)) ≡ right_names (names_in n)
+  pub names_last : (i < e → get_or n e 0 ≡ 124 → ⊥)
+      → (several && made_of C.LastName (drop i n)) ≡ right_names (names_in n)
   names_last w = sym (rest_last n several i (λ l h. w (rw q l) (ap (λ (k : ℕ). get_or n k 0) q ∙ h))) ∙ s.rest
 
 -- ---- right names hold no NUL
@@ -372,7 +376,7 @@ parted_each P (x ∷ s) b e = by_test (eqb x 124) refl e (λ r. parted_each P s 
     on_first_lem [] h = (h.0.0, tt)
     on_first_lem (n ∷ ns) h = (h.0.0, (h.0.1, h.1))
 
-    by_test : (u : Bool) → eqb x 124 ≡ u → Each (Each P) (if u then [] ∷ names_in s else on_first x (names_in s))
+    by_test : (u : Bool) → eqb x 124 ≡ u → Each (Each P) (when u then [] ∷ names_in s else on_first x (names_in s))
         → (Each (Each P) (names_in s) → Each P s) → Each P (x ∷ s)
     by_test true q h rest = (subst P (sym (eqb-true x 124 q)) b, rest h.1)
     by_test false q h rest = let p = on_first_lem (names_in s) h in (p.0, rest p.1)
@@ -457,10 +461,11 @@ header_right t i c e =
     clash : Malformed ≡ Right c → Headed t i c
     clash q = absurd (let z : ◌≡◌ {A = ℕ} 0 1 = cc in (let y : ⊥ = omega arith in y))
 
-    by_tests : (past : Bool) → leb (length t) r ≡ past → (names : Bool) → right_names (names_in (names_to t i r)) ≡ names
+    by_tests : (past : Bool) → leb (length t) r ≡ past
+        → (names : Bool) → right_names (names_in (names_to t i r)) ≡ names
         → (ends long : Bool)
-        → (if past then Malformed else if not names then Malformed else if not ends then Malformed
-        else if long then LongAlias else Right r) ≡ Right c
+        → (when past then Malformed else when not names then Malformed else when not ends then Malformed
+        else when long then LongAlias else Right r) ≡ Right c
         → Headed t i c
     by_tests true p names q ends long h = clash h
     by_tests false p false q ends long h = clash h

@@ -4,7 +4,7 @@ use Rattle.std.specs.Prelude.{◌≡◌, refl, Bool, List, [], ◌∷◌, ℕ, �
 use Rattle.std.proofs.Common.{ap, ◌∙◌, arith}
 use Rattle.std.proofs.Math.Path.{subst}
 use Rattle.std.proofs.Math.Bool.{true, false}
-use Rattle.base.specs.If.{if◌then◌else◌}
+use Rattle.base.specs.If.{when◌then◌else◌}
 use Rattle.base.specs.Answer.{Answer, refused, gives, map_answer}
 use Rattle.edition.specs.declared.Edition.{Edition}
 use Rattle.edition.specs.declared.Place.{Place}
@@ -40,7 +40,7 @@ pub record JudgedField (e : Edition) (t : List ℕ) (p : ℕ) (j : Judging) : Ty
   pub past : ℕ
   pub form : FieldForm
   pub field : field_at t p ≡ G.Right dropped name past form j.next
-  pub says : (if dropped then gives nothing else named_saying e t p (take (past - name) (drop name t)) form)
+  pub says : (when dropped then gives nothing else named_saying e t p (take (past - name) (drop name t)) form)
       ≡ gives j.saying
 
 pub judged_field : (e : Edition) (t : List ℕ) (p : ℕ) (j : Judging) → judging e t p ≡ gives j → JudgedField e t p j
@@ -49,7 +49,7 @@ judged_field e t p j w = by_field (field_at t p) refl w
   where
     by_saying : (dropped : Bool) (i k : ℕ) (f : FieldForm) (next : ℕ) → field_at t p ≡ G.Right dropped i k f next
         → (a : Answer Saying)
-        → (if dropped then gives nothing else named_saying e t p (take (k - i) (drop i t)) f) ≡ a
+        → (when dropped then gives nothing else named_saying e t p (take (k - i) (drop i t)) f) ≡ a
         → map_answer (λ (s : Saying). record { saying = s; next = next }) a ≡ gives j → JudgedField e t p j
     by_saying dropped i k f next q (refused n v) u r = refused_gives r
     by_saying dropped i k f next q (gives s) u r =
@@ -66,7 +66,7 @@ judged_field e t p j w = by_field (field_at t p) refl w
     by_field : (f : Field) → field_at t p ≡ f → judging_of e t p f ≡ gives j → JudgedField e t p j
     by_field (G.Right dropped i k f next) q r =
         by_saying dropped i k f next q
-        (if dropped then gives nothing else named_saying e t p (take (k - i) (drop i t)) f) refl r
+        (when dropped then gives nothing else named_saying e t p (take (k - i) (drop i t)) f) refl r
     by_field G.Malformed q r = refused_gives r
 
 -- what a field says has a written form
@@ -92,7 +92,8 @@ module _ (t : List ℕ) (p : ℕ) where
   boolean_fits q F.LargeNumber s w = refused_gives w
   boolean_fits q (F.String i n) s w = refused_gives w
 
-  number_fits_lem : (q : Place) (f : FieldForm) → FormFits f → (s : Saying) → map_answer (number q) (number_by p f) ≡ gives s
+  number_fits_lem : (q : Place) (f : FieldForm) → FormFits f
+      → (s : Saying) → map_answer (number q) (number_by p f) ≡ gives s
       → Fits s
   unfolding FormFits
   number_fits_lem q F.Boolean h s w = refused_gives w
@@ -109,7 +110,8 @@ module _ (t : List ℕ) (p : ℕ) where
   string_fits q (F.String i n) s w = by_test (leb n content_most) w
     where
       by_test : (b : Bool)
-          → map_answer (string q) (if b then gives (present (read_bytes (read_at t i))) else refused 13 (p ∷ [])) ≡ gives s
+          → map_answer (string q)
+          (when b then gives (present (read_bytes (read_at t i))) else refused 13 (p ∷ [])) ≡ gives s
           → Fits s
       by_test true u = subst Fits (given_is u) (read_free t i)
       by_test false u = refused_gives u
@@ -128,18 +130,18 @@ module _ (t : List ℕ) (p : ℕ) where
   use_fits F.LargeNumber s w = refused_gives w
   use_fits (F.String i n) s w = by_test (leb n content_most) w
     where
-      by_test : (b : Bool) → (if b then gives (uses (read_bytes (read_at t i))) else refused 13 (p ∷ [])) ≡ gives s
+      by_test : (b : Bool) → (when b then gives (uses (read_bytes (read_at t i))) else refused 13 (p ∷ [])) ≡ gives s
           → Fits s
       by_test true u = subst Fits (given_is u) tt
       by_test false u = refused_gives u
 
   says_fits : (e : Edition) (dropped : Bool) (name : List ℕ) (f : FieldForm) → FormFits f → (s : Saying)
-      → (if dropped then gives nothing else named_saying e t p name f) ≡ gives s → Fits s
+      → (when dropped then gives nothing else named_saying e t p name f) ≡ gives s → Fits s
   unfolding named_saying
   says_fits e true name f h s w = subst Fits (given_is w) tt
   says_fits e false name f h s w = by_use (same_bytes name (ascii "use")) w
     where
-      by_use : (b : Bool) → (if b then use_by t p f else saying_of t p f (looking_up e name)) ≡ gives s → Fits s
+      by_use : (b : Bool) → (when b then use_by t p f else saying_of t p f (looking_up e name)) ≡ gives s → Fits s
       by_use true u = use_fits f s u
       by_use false u = found_fits f h (looking_up e name) s u
 

@@ -8,7 +8,7 @@ use Prim.Native.Nat.{ℕ, zero, suc, ◌+◌, ◌-◌, ◌*◌, ◌≤◌, ◌<�
 use Rattle.std.proofs.Math.Numerals.{add-one}
 use native.Mathlib.Omega.{arith}
 use borrow.Author.Tests.{le-leb, lt-leb, eq-eqb, ne_eqb}
-use Rattle.base.specs.If.{if◌then◌else◌}
+use Rattle.base.specs.If.{when◌then◌else◌}
 use Rattle.base.proofs.IfLaws.{below_or}
 use Rattle.text.specs.declared.NumberBase.{NumberBase}
 use Rattle.text.specs.declared.NumberBase.TheVariants.{Octal, Decimal, Hexadecimal}
@@ -98,13 +98,15 @@ module _ (base : NumberBase) (t : List ℕ) (i e : ℕ) (q : e ≡ run_end (C.Di
         digits_are F.LargeNumber (rw (lt-leb (e - i) digits_most l)
         (by_test (leb (with_digits (base_of base) t i (e - i) 0) number_most)))
       where
-        by_test : (b : Bool) → (if b && false then F.Number (with_digits (base_of base) t i (e - i) 0)
+        by_test : (b : Bool) → (when b && false then F.Number (with_digits (base_of base) t i (e - i) 0)
             else F.LargeNumber) ≡ F.LargeNumber
         by_test true = refl
         by_test false = refl
 
     -- v is the value, or one above the most where that is less
-    module _ (v : ℕ) (m : v ≡ min (with_digits (base_of base) t i (e - i) 0) (number_most + 1)) (l : e - i ≤ digits_most)
+    module _ (v : ℕ)
+        (m : v ≡ min (with_digits (base_of base) t i (e - i) 0) (number_most + 1))
+        (l : e - i ≤ digits_most)
       where
         pub digits-large : number_most < v → Right F.LargeNumber e ≡ digits_at base t i
         unfolding number_form

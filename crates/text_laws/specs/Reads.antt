@@ -14,7 +14,8 @@ use Rattle.text.specs.declared.Content.TheVariants as W
 use Rattle.text.specs.declared.StringItem.{StringItem}
 use Rattle.text.specs.declared.StringItem.TheVariants.{End, Byte, Removed, Malformed}
 use Rattle.text.specs.Bytes.{between, is_blank, run_end}
-use Rattle.text.specs.Strings.{digit_at, letter_of, octal_of, escape_at, is_control, caret_at, line_end_at, string_item_at}
+use Rattle.text.specs.Strings.{digit_at, letter_of, octal_of, escape_at, is_control, caret_at}
+use Rattle.text.specs.Strings.{line_end_at, string_item_at}
 use Rattle.text.specs.Strings.{stored_byte, Reading, Read, whole, malformed, read_turn, read_from, read_at, read_bytes}
 use Rattle.text.specs.Strings.{content_of}
 use Rattle.text_laws.specs.Runs.{run_ge}

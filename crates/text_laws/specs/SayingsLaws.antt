@@ -13,7 +13,8 @@ use Rattle.edition.specs.declared.Edition.{Edition}
 use Rattle.text.specs.declared.Line.{Line}
 use Rattle.text.specs.declared.Line.TheVariants.{End, Column, Indented}
 use Rattle.text.specs.Lines.{next_at}
-use Rattle.text.specs.Describing.{Judging, judging, SayingAt, FieldsRead, with_field, field_turn, line_turn, sayings_turn}
+use Rattle.text.specs.Describing.{Judging, judging, SayingAt, FieldsRead}
+use Rattle.text.specs.Describing.{with_field, field_turn, line_turn, sayings_turn}
 use Rattle.text.specs.Describing.{Fields, fields_to, sayings_read, sayings_from}
 use Rattle.text_laws.specs.LineLaws.{LineAfter, next_after}
 use Rattle.text_laws.specs.FieldLaws.{field_after}

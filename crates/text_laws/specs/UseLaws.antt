@@ -6,7 +6,7 @@ use Rattle.std.proofs.Common.{sym, ap, ◌∙◌, subst, arith, length-drop, len
 use Rattle.std.proofs.Math.Bool.{true, false}
 use Prim.Native.Nat.{ℕ, ◌+◌, ◌-◌, ◌≤◌, ◌<◌}
 use Rattle.std.proofs.Math.Dec.{eqb, leb}
-use Rattle.base.specs.If.{if◌then◌else◌}
+use Rattle.base.specs.If.{when◌then◌else◌}
 use Rattle.base.proofs.IfLaws.{if_both}
 use Rattle.base.specs.Tabulate.{Each}
 use Rattle.base.specs.Answer.{Answer, refused, gives, map_answer}
@@ -162,7 +162,7 @@ module _ (t : List ℕ) (p : ℕ) where
   use_form (F.String i m) n w = by_test (leb m content_most) w
     where
       by_test : (b : Bool)
-          → (if b then gives (uses (read_bytes (read_at t i))) else refused 13 (p ∷ [])) ≡ gives (uses n)
+          → (when b then gives (uses (read_bytes (read_at t i))) else refused 13 (p ∷ [])) ≡ gives (uses n)
           → UseForm t (F.String i m) n
       by_test true u =
           let q : uses (read_bytes (read_at t i)) ≡ uses n = given_is u in
@@ -177,7 +177,7 @@ module _ (t : List ℕ) (p : ℕ) where
   named_use e name f n w = by_name (same_bytes name (ascii "use")) refl w
     where
       by_name : (b : Bool) → same_bytes name (ascii "use") ≡ b
-          → (if b then use_by t p f else saying_of t p f (looking_up e name)) ≡ gives (uses n)
+          → (when b then use_by t p f else saying_of t p f (looking_up e name)) ≡ gives (uses n)
           → (name ≡ ascii "use") × UseForm t f n
       by_name true q u = (same_eq name (ascii "use") q, use_form f n u)
       by_name false q u = absurd (saying_of_from f (looking_up e name) (uses n) u)
@@ -214,7 +214,7 @@ use_field e t p j n w u =
         record { name = v.name ∙ ap (λ (x : ℕ). read_bytes (read_at t x)) s; long = omega arith }
 
     by_dropped : (dropped : Bool) (i k : ℕ) (f : FieldForm) → field_at t p ≡ Right dropped i k f j.next
-        → (if dropped then gives nothing else named_saying e t p (take (k - i) (drop i t)) f) ≡ gives (uses n)
+        → (when dropped then gives nothing else named_saying e t p (take (k - i) (drop i t)) f) ≡ gives (uses n)
         → UseField t p j.next n
     by_dropped true i k f q v = absurd (subst NoUse (given_is v) tt)
     by_dropped false i k f q v =

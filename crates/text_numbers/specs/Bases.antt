@@ -1,13 +1,13 @@
 -- The base of a number and its first digit, apart from the number.
 -- Assumes nothing.
 use Rattle.std.specs.Prelude.{◌≡◌, refl, Bool, true, false, ◌||◌, List, ℕ, ◌+◌, eqb, get_or}
-use Rattle.base.specs.If.{if◌then◌else◌}
+use Rattle.base.specs.If.{when◌then◌else◌}
 use Rattle.text.specs.declared.NumberBase.{NumberBase}
 use Rattle.text.specs.declared.NumberBase.TheVariants.{Octal, Decimal, Hexadecimal}
 use Rattle.text.specs.Numbers.{digits_at, number_at}
 
 abbrev based_on : Bool → Bool → NumberBase
-based_on zero x = if zero then (if x then Hexadecimal else Octal) else Decimal
+based_on zero x = when zero then (when x then Hexadecimal else Octal) else Decimal
 
 -- 48 is `0`, 120 and 88 are `x` and `X`
 unfoldable pub base_at : List ℕ → ℕ → NumberBase
@@ -27,7 +27,7 @@ number_digits t i = by_tests (eqb (get_or t i 0) 48) (eqb (get_or t (i + 1) 0) 1
   where
     by_tests : (zero x : Bool)
         → digits_at (based_on zero x) t (first_digit (based_on zero x) i) ≡
-        (if zero then (if x then digits_at Hexadecimal t (i + 2) else digits_at Octal t i)
+        (when zero then (when x then digits_at Hexadecimal t (i + 2) else digits_at Octal t i)
         else digits_at Decimal t i)
     by_tests true true = refl
     by_tests true false = refl

@@ -7,7 +7,7 @@ use Prim.Native.Nat.{ℕ, ◌≤◌}
 use native.Mathlib.Omega.{arith}
 use lib.Dec.{eqb}
 use lib.ListN.{length}
-use Rattle.base.specs.If.{if◌then◌else◌}
+use Rattle.base.specs.If.{when◌then◌else◌}
 use Rattle.number_words.specs.declared.Parsed.{Parsed}
 use Rattle.number_words.specs.declared.Parsed.TheVariants as P
 use Rattle.number_words.specs.Number.{is_numeral, value_of}
@@ -18,7 +18,7 @@ no_number : (p : Parsed) (k n : ℕ) → number_of p ≡ A.Text k → k ≤ n
 no_number (P.Value v) k n e = absurd (let z : ◌≡◌ {A = ℕ} 0 1 = cc in (let y : ⊥ = omega arith in y))
 no_number P.Wrong k n e = absurd (let z : ◌≡◌ {A = ℕ} 0 1 = cc in (let y : ⊥ = omega arith in y))
 
-by_numeral : (w : List ℕ) (n : ℕ) (k : ℕ) (t : Bool) → (if t then number_of (value_of w) else A.Text 0) ≡ A.Text k → k ≤ n
+by_numeral : (w : List ℕ) (n : ℕ) (k : ℕ) (t : Bool) → (when t then number_of (value_of w) else A.Text 0) ≡ A.Text k → k ≤ n
 by_numeral w n k true e = no_number (value_of w) k n e
 by_numeral w n k false e = let z : k ≡ 0 = cc in omega arith
 
@@ -27,7 +27,7 @@ unfolding argument_of
 text_inside [] k e = by_numeral [] 0 k (is_numeral (unsigned [])) e
 text_inside (c ∷ w) k e = by_first (eqb c 61) e
   where
-    by_first : (t : Bool) → (if t then A.Text 1 else if is_numeral (unsigned (c ∷ w)) then number_of (value_of (c ∷ w)) else A.Text 0) ≡ A.Text k
+    by_first : (t : Bool) → (when t then A.Text 1 else when is_numeral (unsigned (c ∷ w)) then number_of (value_of (c ∷ w)) else A.Text 0) ≡ A.Text k
         → k ≤ length (c ∷ w)
     by_first true q = let z : k ≡ 1 = cc in omega arith
     by_first false q = by_numeral (c ∷ w) (length (c ∷ w)) k (is_numeral (unsigned (c ∷ w))) q

@@ -1,5 +1,7 @@
 // Refusals as people read them: `ti: NAME: sentence (refusal N)`, with the byte where the refusal gives one. Proved:
-// `open` answers as entry/specs says; each function is safe and ends. Assumed: what libc and os say of C.
+// `open` answers as entry/specs says; each function is safe and ends. Assumed: what std says of the system.
+#![tactic(auto)]
+
 ghost use Rattle.std.specs.Prelude.{◌≡◌};
 ghost use Rattle.entry.specs.Asking.{opening};
 ghost use Rattle.entry.specs.Says.{says_opened};
@@ -14,60 +16,60 @@ use ti_common::{Status, complain, complain_number};
 mod file;
 
 // Begins a message: the name of what is refused, where `-` is standard input.
-pub fn begin(path: &[u8]) {
-    complain(b"ti: ");
+pub fn begin(rt: HostRuntime, path: &[u8]) {
+    complain(rt, b"ti: ");
     if ti_common::words::is_same(path, b"-") {
-        complain(b"standard input");
+        complain(rt, b"standard input");
     } else {
-        complain(path);
+        complain(rt, path);
     }
 }
 
 // Ends a message with document 01's number.
-pub fn end(number: u8) -> Status {
-    complain(b" (refusal ");
-    complain_number(number as usize);
-    complain(b")\n");
+pub fn end(rt: HostRuntime, number: u8) -> Status {
+    complain(rt, b" (refusal ");
+    complain_number(rt, number as usize);
+    complain(rt, b")\n");
     Status::Refused
 }
 
 // Ends a message with the number and a byte, counted from 0.
-pub fn end_at(number: u8, place: usize) -> Status {
-    complain(b" (refusal ");
-    complain_number(number as usize);
-    complain(b", byte ");
-    complain_number(place);
-    complain(b")\n");
+pub fn end_at(rt: HostRuntime, number: u8, place: usize) -> Status {
+    complain(rt, b" (refusal ");
+    complain_number(rt, number as usize);
+    complain(rt, b", byte ");
+    complain_number(rt, place);
+    complain(rt, b")\n");
     Status::Refused
 }
 
 // Says a refusal that gives no byte.
-pub fn refuse(path: &[u8], sentence: &[u8], number: u8) -> Status {
-    begin(path);
-    complain(b": ");
-    complain(sentence);
-    end(number)
+pub fn refuse(rt: HostRuntime, path: &[u8], sentence: &[u8], number: u8) -> Status {
+    begin(rt, path);
+    complain(rt, b": ");
+    complain(rt, sentence);
+    end(rt, number)
 }
 
 // Says that there is too little room, and how many bytes are needed.
-pub fn refuse_room(path: &[u8], needed: usize, number: u8) -> Status {
-    begin(path);
-    complain(b": too little room for the output, which needs ");
-    complain_number(needed);
-    complain(b" bytes");
-    end(number)
+pub fn refuse_room(rt: HostRuntime, path: &[u8], needed: usize, number: u8) -> Status {
+    begin(rt, path);
+    complain(rt, b": too little room for the output, which needs ");
+    complain_number(rt, needed);
+    complain(rt, b" bytes");
+    end(rt, number)
 }
 
 // Says that the edition is too large.
-pub fn refuse_edition() -> Status {
-    complain(b"ti: the edition is too large: at most ");
-    complain_number(edition::BOOLEANS_MOST);
-    complain(b" booleans, ");
-    complain_number(edition::NUMBERS_MOST);
-    complain(b" numbers, ");
-    complain_number(edition::STRINGS_MOST);
-    complain(b" strings");
-    end(refusal_numbers::of_compiled(Compiled::Edition))
+pub fn refuse_edition(rt: HostRuntime) -> Status {
+    complain(rt, b"ti: the edition is too large: at most ");
+    complain_number(rt, edition::BOOLEANS_MOST);
+    complain(rt, b" booleans, ");
+    complain_number(rt, edition::NUMBERS_MOST);
+    complain(rt, b" numbers, ");
+    complain_number(rt, edition::STRINGS_MOST);
+    complain(rt, b" strings");
+    end(rt, refusal_numbers::of_compiled(Compiled::Edition))
 }
 
 // Whether a capability of some edition has the name.
@@ -81,52 +83,58 @@ fn is_capability(name: &[u8]) -> bool {
 }
 
 // Says that no capability has the name, or that the edition knows none of it.
-pub fn complain_unknown(name: &[u8]) {
+pub fn complain_unknown(rt: HostRuntime, name: &[u8]) {
     if is_capability(name) {
-        complain_quoted(name);
-        complain(b" is not in the edition");
+        complain_quoted(rt, name);
+        complain(rt, b" is not in the edition");
     } else {
-        complain(b"unknown capability ");
-        complain_quoted(name);
+        complain(rt, b"unknown capability ");
+        complain_quoted(rt, name);
     }
 }
 
 // Refuses a name that the edition knows no capability of.
-pub fn refuse_unknown(path: &[u8], name: &[u8], number: u8) -> Status {
-    begin(path);
-    complain(b": ");
-    complain_unknown(name);
-    end(number)
+pub fn refuse_unknown(rt: HostRuntime, path: &[u8], name: &[u8], number: u8) -> Status {
+    begin(rt, path);
+    complain(rt, b": ");
+    complain_unknown(rt, name);
+    end(rt, number)
 }
 
 // Says that a file is refused, with the byte where the refusal gives one: none is below the header's 12.
-pub fn refuse_file(path: &[u8], file: &[u8], edition: Edition, why: FileRefusal) -> Status {
-    begin(path);
-    complain(b": ");
-    file::complain_file(file, edition, why);
+pub fn refuse_file(
+    rt: HostRuntime,
+    path: &[u8],
+    file: &[u8],
+    edition: Edition,
+    why: FileRefusal,
+) -> Status {
+    begin(rt, path);
+    complain(rt, b": ");
+    file::complain_file(rt, file, edition, why);
     let number = refusal_numbers::of_file(why);
     let position = refusal_numbers::position(why);
     if position == 0 {
-        return end(number);
+        return end(rt, number);
     }
-    end_at(number, position)
+    end_at(rt, number, position)
 }
 
 // Says why a file is refused, if it is.
-fn complain_opened(path: &[u8], file: &[u8], edition: Edition, opened: Opened) {
+fn complain_opened(rt: HostRuntime, path: &[u8], file: &[u8], edition: Edition, opened: Opened) {
     match opened {
         Opened::Entry(_, _) => {}
         Opened::Refused(why) => {
-            refuse_file(path, file, edition, why);
+            refuse_file(rt, path, file, edition, why);
         }
     }
 }
 
 // Opens a file in an edition; says why, where it is refused.
-pub fn open(path: &[u8], file: &[u8], edition: Edition) -> Opened
+pub fn open(rt: HostRuntime, path: &[u8], file: &[u8], edition: Edition) -> Opened
     ensures { says_opened result ≡ opening edition file.now }
 {
     let opened = read::open(file, edition);
-    complain_opened(path, file, edition, opened);
+    complain_opened(rt, path, file, edition, opened);
     opened
 }

@@ -8,15 +8,18 @@ use Rattle.edition.specs.Edition.{ok_edition, place}
 use Rattle.entry.specs.State.{State, absent, cancelled, present, slot_of, ok_slot, ok_boolean}
 use Rattle.base.specs.Answer.{Answer, refused, gives, number_of}
 use Rattle.entry.specs.Layout.{sizes_of, size_of}
-use Rattle.entry.specs.Reading.{ok_counts, ok_names, ok_booleans, ok_pad, ok_numbers, ok_strings, reading, slot_in, number_in}
+use Rattle.entry.specs.Reading.{ok_counts, ok_names, ok_booleans, ok_pad, ok_numbers, ok_strings, reading}
+use Rattle.entry.specs.Reading.{slot_in, number_in}
 use Prim.Native.String.{String}
 use Rattle.signed.specs.Signed.{low32, wrap, add, subtract, multiply, divide, remainder}
 use Rattle.characters.specs.Character.{character}
 use Rattle.expansion.specs.Items.{singles, found, argument_at, quoted_at, decimal, braced_at, store_at, load_at}
 use Rattle.expansion.specs.Items.{format_at, width_at, percent_at, item_at}
-use Rattle.expansion.specs.Form.{class_of, class_at, after_if, after_then, after_else, after_end, nesting, form_from, form_of}
+use Rattle.expansion.specs.Form.{class_of, class_at, after_if, after_then, after_else, after_end}
+use Rattle.expansion.specs.Form.{nesting, form_from, form_of}
 use Rattle.expansion.specs.Print.{digits_from, digits, numeral, printed}
-use Rattle.expansion.specs.Machine.{applied, inverted, loaded, stored, raised, incremented, arity, pops_text, other_kind}
+use Rattle.expansion.specs.Machine.{applied, inverted, loaded, stored, raised, incremented}
+use Rattle.expansion.specs.Machine.{arity, pops_text, other_kind}
 use Rattle.expansion.specs.Machine.{effect}
 use Rattle.expansion.specs.Machine.{performed, taking, passing, passed, running, run}
 use Rattle.expansion.specs.Arguments.{numbers_given}
@@ -116,10 +119,11 @@ trials =
 pub trials_hold : map (λ (t : Trial). t.found) trials ≡ map (λ (t : Trial). t.expected) trials
 unfolding trials ascii opening ok_edition reading sizes_of word ok_counts ok_names scan ok_booleans ok_boolean ok_pad
     ok_numbers ok_slot ok_strings asking number_in slot_in slot_of low32 wrap add subtract multiply divide remainder
-    singles found argument_at quoted_at decimal braced_at store_at load_at format_at width_at percent_at item_at class_of
-    class_at after_if after_then after_else after_end nesting form_from form_of digits_from digits numeral printed
-    applied inverted character loaded stored raised incremented arity pops_text other_kind effect performed taking
-    passing passed running run ended formed expanding turns loop Bytes.is_blank Bytes.digit_of Bytes.is_in Bytes.run_end
-    Strings.letter_of Strings.octal_of Strings.escape_at Strings.is_control Strings.caret_at Strings.line_end_at
-    Strings.string_item_at Strings.stored_byte Strings.read_turn Strings.read_from Strings.read_bytes
+    singles found argument_at quoted_at decimal braced_at store_at load_at format_at width_at percent_at item_at
+    class_of class_at after_if after_then after_else after_end nesting form_from form_of digits_from digits numeral
+    printed applied inverted character loaded stored raised incremented arity pops_text other_kind effect performed
+    taking passing passed running run ended formed expanding turns loop Bytes.is_blank Bytes.digit_of Bytes.is_in
+    Bytes.run_end Strings.letter_of Strings.octal_of Strings.escape_at Strings.is_control Strings.caret_at
+    Strings.line_end_at Strings.string_item_at Strings.stored_byte Strings.read_turn Strings.read_from
+    Strings.read_bytes
 trials_hold = refl

@@ -12,7 +12,7 @@ use lib.Dec.{eqb}
 use lib.ListN.{length, get_or, drop, set, length-set, drop_of_length-le}
 use lib.Seq.{drop-cons, get_or-set_same, get_or-set_other}
 use borrow.Author.Tests.{eq-eqb, ne_eqb}
-use Rattle.base.specs.If.{if◌then◌else◌}
+use Rattle.base.specs.If.{when◌then◌else◌}
 use Rattle.base.proofs.IfLaws.{true_false, or_left, or_right, is_false, below_or}
 use Rattle.names.specs.Names.{on_first, parted}
 use Rattle.names.specs.Lookup.{same_bytes}
@@ -28,7 +28,7 @@ use Rattle.use_names.proofs.NameLaws.{Some, names_some}
 -- x is met as the hash of a name but the last, where h is the hash of the first name's bytes before s
 pub is_met : ℕ → ℕ → List ℕ → Bool
 is_met x h [] = false
-is_met x h (b ∷ s) = if eqb b 124 then eqb x h || is_met x 0 s else is_met x (hash_more h b) s
+is_met x h (b ∷ s) = when eqb b 124 then eqb x h || is_met x 0 s else is_met x (hash_more h b) s
 
 -- the same by names
 is_met_in : ℕ → ℕ → List (List ℕ) → Bool
@@ -53,8 +53,8 @@ met_names x h (b ∷ s) = by_test (eqb b 124) (met_names x 0 s) (met_names x (ha
   where
     by_test : (u : Bool) → is_met_in x 0 (names_in s) ≡ is_met x 0 s
         → is_met_in x (hash_more h b) (names_in s) ≡ is_met x (hash_more h b) s
-        → is_met_in x h (if u then [] ∷ names_in s else on_first b (names_in s))
-        ≡ (if u then eqb x h || is_met x 0 s else is_met x (hash_more h b) s)
+        → is_met_in x h (when u then [] ∷ names_in s else on_first b (names_in s))
+        ≡ (when u then eqb x h || is_met x 0 s else is_met x (hash_more h b) s)
     by_test true e f = met_bar x h (names_in s) (names_some s) ∙ ap (λ u. eqb x h || u) e
     by_test false e f = met_byte x h b (names_in s) ∙ f
 

@@ -10,7 +10,7 @@ use native.Mathlib.Omega.{arith}
 use lib.Dec.{leb, ltb}
 use lib.ListN.{length, get_or}
 use borrow.Author.Tests.{leb-true, ltb-false}
-use Rattle.base.specs.If.{if◌then◌else◌}
+use Rattle.base.specs.If.{when◌then◌else◌}
 use Rattle.base.specs.Scan.{every}
 use Rattle.base.proofs.IfLaws.{true_false, and_left, and_right, neither, is_false, below_or}
 use Rattle.edition.specs.declared.Edition.{Edition}
@@ -116,8 +116,8 @@ header_short t i c e =
     clash z = absurd (omega arith)
 
     by_tests : (past names ends long : Bool) → long_alias (names_in (names_to t i r)) ≡ long
-        → (if past then Malformed else if not names then Malformed else if not ends then Malformed
-        else if long then LongAlias else Right r) ≡ Right c
+        → (when past then Malformed else when not names then Malformed else when not ends then Malformed
+        else when long then LongAlias else Right r) ≡ Right c
         → long_alias (names_in (names_to t i c)) ≡ false
     by_tests true names ends long q h = clash (cc)
     by_tests false false ends long q h = clash (cc)

@@ -8,7 +8,7 @@ use native.Mathlib.Omega.{arith}
 use lib.Dec.{eqb}
 use lib.ListN.{length, get_or, take, drop}
 use lib.Seq.{ext_get_or}
-use Rattle.base.specs.If.{if◌then◌else◌}
+use Rattle.base.specs.If.{when◌then◌else◌}
 use Rattle.base.proofs.IfLaws.{below_or, is_false}
 use Rattle.names.specs.Names.{on_first, parted}
 use Rattle.names.specs.Lookup.{same_bytes}
@@ -44,7 +44,7 @@ unfolding parted
 names_some [] = ([], [], refl)
 names_some (b ∷ s) = by_test (eqb b 124) (names_some s)
   where
-    by_test : (u : Bool) → Some (names_in s) → Some (if u then [] ∷ names_in s else on_first b (names_in s))
+    by_test : (u : Bool) → Some (names_in s) → Some (when u then [] ∷ names_in s else on_first b (names_in s))
     by_test true r = ([], names_in s, refl)
     by_test false r = (b ∷ r.0, r.1, rw r.2)
 

@@ -10,7 +10,7 @@ use lib.Dec.{eqb, ltb}
 use lib.ListN.{length, get_or, set, length-set, replicate}
 use lib.Seq.{get_or-set_same, get_or-set_other}
 use borrow.Author.Tests.{eqb-true, eqb-false, eq-eqb, ne_eqb, lt-ltb, le-ltb}
-use Rattle.base.specs.If.{if◌then◌else◌}
+use Rattle.base.specs.If.{when◌then◌else◌}
 use Rattle.base.specs.Answer.{refused, gives, map_answer}
 use Rattle.uses.specs.Walk.{Use, missing, found, Graph, is_in}
 use Rattle.uses.specs.Heights.{unfinished, height, height_of, low, keep, fits}
@@ -120,7 +120,7 @@ heights_set : (hs : List ℕ) (d x : ℕ) → d < length hs → heights_of (set 
 unfolding keep
 heights_set hs d x l = fun_ext (λ y. by y (eqb y d) refl)
   where
-    by : (y : ℕ) (b : Bool) → eqb y d ≡ b → heights_of (set hs d x) y ≡ (if b then kept_as x else heights_of hs y)
+    by : (y : ℕ) (b : Bool) → eqb y d ≡ b → heights_of (set hs d x) y ≡ (when b then kept_as x else heights_of hs y)
     by y true q = rw (eqb-true y d q, get_or-set_same hs d x 255 l)
     by y false q = rw (get_or-set_other hs d y x 255 (eqb-false y d q))
 
@@ -132,7 +132,7 @@ not_fits_kept : (x left : ℕ) → left ≤ x → fits (kept_as x) left ≡ fals
 unfolding fits
 not_fits_kept x left l = by (ltb x 255)
   where
-    by : (b : Bool) → fits (if b then height x else unfinished) left ≡ false
+    by : (b : Bool) → fits (when b then height x else unfinished) left ≡ false
     by true = le-ltb x left l
     by false = refl
 

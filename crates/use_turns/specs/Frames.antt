@@ -1,7 +1,7 @@
 -- The uses of a text's descriptions, the open descriptions and the heights, as arrays hold them.
 -- Assumes nothing.
 use Rattle.std.specs.Prelude.{◌≡◌, List, [], ◌∷◌, ℕ, zero, suc, ◌+◌, ◌-◌, ◌≤◌, ◌<◌, eqb, ltb, length, get_or, set}
-use Rattle.base.specs.If.{if◌then◌else◌}
+use Rattle.base.specs.If.{when◌then◌else◌}
 use Rattle.base.specs.Answer.{Answer}
 use Rattle.uses.specs.Walk.{Use, missing, found, Graph}
 use Rattle.uses.specs.Targets.{no_target}
@@ -26,7 +26,8 @@ use_arrays starts places targets count =
 
 abbrev pub use_at : (places targets : List ℕ) → ℕ → Use
 use_at places targets i =
-    if eqb (get_or targets i 0) no_target then missing (get_or places i 0) else found (get_or places i 0) (get_or targets i 0)
+    when eqb (get_or targets i 0) no_target then missing (get_or places i 0)
+    else found (get_or places i 0) (get_or targets i 0)
 
 -- k uses from the i-th on
 unfoldable pub uses_from : (places targets : List ℕ) → ℕ → ℕ → List Use
@@ -100,7 +101,7 @@ pub record Framed (u : UseArrays) (o : Frames) : Type 0 where
   pub within : (j : ℕ) → j < o.depth → get_or o.next j 0 ≤ end_of u (get_or o.stack j 0)
 
 abbrev pub kept_as : ℕ → Kept
-kept_as x = if ltb x unfinished_height then height x else unfinished
+kept_as x = when ltb x unfinished_height then height x else unfinished
 
 abbrev pub heights_of : List ℕ → Heights
 heights_of hs d = kept_as (get_or hs d unfinished_height)

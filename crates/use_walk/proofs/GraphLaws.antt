@@ -9,7 +9,7 @@ use lib.Dec.{eqb}
 use lib.ListN.{length, get_or, take, drop, get_or-eq_default}
 use lib.Seq.{drop-cons}
 use borrow.Author.Tests.{ne_eqb}
-use Rattle.base.specs.If.{if◌then◌else◌}
+use Rattle.base.specs.If.{when◌then◌else◌}
 use Rattle.base.specs.Tabulate.{Each}
 use Rattle.base.proofs.IfLaws.{below_or}
 use Rattle.edition.specs.declared.Edition.{Edition}
@@ -30,7 +30,7 @@ unfolding having_from
 having_below k n [] d e = absurd (let z : ◌≡◌ {A = ℕ} 0 1 = cc in (let y : ⊥ = omega arith in y))
 having_below k n (x ∷ ds) d e = by (has_name n x.names) e (having_below (suc k) n ds d)
   where
-    by : (b : Bool) → (if b then numbered k else having_from (suc k) n ds) ≡ numbered d
+    by : (b : Bool) → (when b then numbered k else having_from (suc k) n ds) ≡ numbered d
         → (having_from (suc k) n ds ≡ numbered d → d < suc k + length ds) → d < k + length (x ∷ ds)
     by true q rest = let z : k ≡ d = cc in omega arith
     by false q rest = let l = rest q in omega arith
@@ -47,11 +47,11 @@ target_below n ds h = by (having n ds) refl h
 -- a use by its target
 found_target : (p : ℕ) (n : List ℕ) (ds : List Description) → length ds ≤ 64
     → found_as p (having n ds)
-    ≡ (if eqb (target_of (having n ds)) 255 then missing p else found p (target_of (having n ds)))
+    ≡ (when eqb (target_of (having n ds)) 255 then missing p else found p (target_of (having n ds)))
 found_target p n ds few = by (having n ds) refl
   where
     by : (w : Having) → having n ds ≡ w
-        → found_as p w ≡ (if eqb (target_of w) 255 then missing p else found p (target_of w))
+        → found_as p w ≡ (when eqb (target_of w) 255 then missing p else found p (target_of w))
     by nobody e = refl
     by (numbered d) e =
         let l = having_below 0 n ds d e in

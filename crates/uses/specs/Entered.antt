@@ -10,7 +10,7 @@ use Prim.Native.Nat.{ℕ, zero, suc, max, ◌<◌, ◌≤◌}
 use native.Mathlib.Omega.{arith}
 use Rattle.std.proofs.Math.Dec.{eqb}
 use borrow.Author.Tests.{eqb-true, lt-ltb, le-ltb}
-use Rattle.base.specs.If.{if◌then◌else◌}
+use Rattle.base.specs.If.{when◌then◌else◌}
 use Rattle.base.proofs.IfLaws.{true_false, below_or}
 use Rattle.base.specs.Answer.{Answer, refused, gives, map_answer}
 use Rattle.uses.specs.Walk.{Use, missing, found, Graph, uses_most, is_in, bind}
@@ -28,7 +28,7 @@ kept_for m (found p t) = m t
 
 unfoldable pub late_in : Heights → ℕ → (Use → ℕ) → List Use → ℕ
 late_in m left at [] = 0
-late_in m left at (u ∷ us) = if fits (kept_for m u) left then late_in m left at us else at u
+late_in m left at (u ∷ us) = when fits (kept_for m u) left then late_in m left at us else at u
 
 unfoldable pub late : Graph → Heights → ℕ → Use → ℕ
 late g m zero (missing p) = p
@@ -227,7 +227,7 @@ module _ (g : Graph) where
   unfolding fast_follow fits
   follow_once zero chain p t s r l once e = by (is_in t chain) e
     where
-      by : (b : Bool) → ◌≡◌ {A = Answer Log} (if b then refused 19 (p ∷ []) else refused 20 (p ∷ [])) (gives r)
+      by : (b : Bool) → ◌≡◌ {A = Answer Log} (when b then refused 19 (p ∷ []) else refused 20 (p ∷ [])) (gives r)
           → Followed zero chain t s r
       by true q = not_gives 19 (p ∷ []) r q
       by false q = not_gives 20 (p ∷ []) r q
@@ -243,7 +243,8 @@ module _ (g : Graph) where
       never p' s' r' w = not_gives 18 (p' ∷ []) r' (sym (fast_missing left (t ∷ chain) p' s') ∙ w)
 
       entered : s.heights t ≡ unfinished → is_in t chain ≡ false → Below
-          → map_answer (finish g t) (fast_each (fast_follow logged g left (t ∷ chain)) (g t) (enter logged t s)) ≡ gives r
+          → map_answer (finish g t) (fast_each (fast_follow logged g left (t ∷ chain)) (g t) (enter logged t
+          s)) ≡ gives r
           → Followed (suc left) chain t s r
       entered u fresh below q =
           let (m, em, er) =
@@ -262,7 +263,7 @@ module _ (g : Graph) where
           }
 
       by_kept : (k : Kept) → s.heights t ≡ k → is_in t chain ≡ false → Below
-          → (if fits k (suc left) then gives s
+          → (when fits k (suc left) then gives s
           else map_answer (finish g t) (fast_each (fast_follow logged g left (t ∷ chain)) (g t) (enter logged t s)))
           ≡ gives r
           → Followed (suc left) chain t s r
@@ -278,8 +279,8 @@ module _ (g : Graph) where
           ∙ e))
 
       by_open : (b : Bool) → is_in t chain ≡ b
-          → (if b then refused 19 (p ∷ [])
-          else if fits (s.heights t) (suc left) then gives s
+          → (when b then refused 19 (p ∷ [])
+          else when fits (s.heights t) (suc left) then gives s
           else map_answer (finish g t) (fast_each (fast_follow logged g left (t ∷ chain)) (g t) (enter logged t s)))
           ≡ gives r
           → Below → Followed (suc left) chain t s r

@@ -2,7 +2,7 @@
 -- these lead to 20.
 -- Assumes nothing.
 use Rattle.std.specs.Prelude.{List, [], ◌∷◌, ℕ, zero, suc}
-use Rattle.base.specs.If.{if◌then◌else◌}
+use Rattle.base.specs.If.{when◌then◌else◌}
 use Rattle.base.specs.Answer.{Answer, refused, gives, map_answer}
 use Rattle.uses.specs.Walk.{Use, missing, found, Graph, uses_most, is_in, bind}
 use Rattle.uses.specs.Heights.{unfinished, Heights, height_of, low, keep, fits}
@@ -24,11 +24,11 @@ fast_each down (u ∷ us) s = bind (down u s) (fast_each down us)
 
 unfoldable pub fast_follow : {S : Type 0} → (S → ℕ → S) → Graph → ℕ → List ℕ → Use → Met S → Answer (Met S)
 fast_follow put g zero chain (missing p) s = refused 18 (p ∷ [])
-fast_follow put g zero chain (found p t) s = if is_in t chain then refused 19 (p ∷ []) else refused 20 (p ∷ [])
+fast_follow put g zero chain (found p t) s = when is_in t chain then refused 19 (p ∷ []) else refused 20 (p ∷ [])
 fast_follow put g (suc left) chain (missing p) s = refused 18 (p ∷ [])
 fast_follow put g (suc left) chain (found p t) s =
-    if is_in t chain then refused 19 (p ∷ [])
-    else if fits (s.heights t) (suc left) then gives s
+    when is_in t chain then refused 19 (p ∷ [])
+    else when fits (s.heights t) (suc left) then gives s
     else map_answer (finish g t) (fast_each (fast_follow put g left (t ∷ chain)) (g t) (enter put t s))
 
 abbrev pub start : {S : Type 0} → S → Met S

@@ -8,7 +8,7 @@ use mathlib.Core.List.{List, [], ◌∷◌}
 use Prim.Native.Nat.{ℕ, zero, suc, ◌<◌, ◌≤◌}
 use Rattle.std.proofs.Math.Dec.{eqb, ltb}
 use borrow.Author.Tests.{eqb-true, eqb-false, eq-eqb, ne_eqb, ltb-true, ltb-false, lt-ltb}
-use Rattle.base.specs.If.{if◌then◌else◌}
+use Rattle.base.specs.If.{when◌then◌else◌}
 use Rattle.base.proofs.IfLaws.{true_false}
 use Rattle.base.specs.Tabulate.{Each}
 use Rattle.base.specs.Answer.{Answer, refused, gives, map_answer}
@@ -35,7 +35,7 @@ unfolding low
 low_of unfinished h e = not_unfinished h e
 low_of (height x) h e = by (ltb x unfinished_height) refl e
   where
-    by : (b : Bool) → ltb x unfinished_height ≡ b → (if b then height x else unfinished) ≡ height h
+    by : (b : Bool) → ltb x unfinished_height ≡ b → (when b then height x else unfinished) ≡ height h
         → (height x ≡ height h) × (h < unfinished_height)
     by true q p = let l = ltb-true x unfinished_height q in let i = height_inj x h p in (p, omega arith)
     by false q p = not_unfinished h p
@@ -229,7 +229,7 @@ module _ {S : Type 0} (put : S → ℕ → S) (law : FirstStands put) (g : Graph
       (map_answer (finish g t) (fast_each (fast_follow put g left (t ∷ chain)) (g t) (enter put t s))))
       → (k : Kept) → s.heights t ≡ k
       → Agree s chain (walk g left chain t)
-      (if fits k (suc left) then gives s
+      (when fits k (suc left) then gives s
       else map_answer (finish g t) (fast_each (fast_follow put g left (t ∷ chain)) (g t) (enter put t s)))
   unfolding fits
   agree_met left chain t s fresh good high entered unfinished e =
@@ -237,7 +237,7 @@ module _ {S : Type 0} (put : S → ℕ → S) (law : FirstStands put) (g : Graph
   agree_met left chain t s fresh good high entered (height h) e = by (ltb h (suc left)) refl
     where
       by : (b : Bool) → ltb h (suc left) ≡ b → Agree s chain (walk g left chain t)
-          (if b then gives s
+          (when b then gives s
           else map_answer (finish g t) (fast_each (fast_follow put g left (t ∷ chain)) (g t) (enter put t s)))
       by true q =
           let l = ltb-true h (suc left) q in
@@ -258,8 +258,8 @@ module _ {S : Type 0} (put : S → ℕ → S) (law : FirstStands put) (g : Graph
   agree_follow zero chain (found p t) s good high = by (is_in t chain)
     where
       by : (b : Bool)
-          → Agree s chain (if b then refused 19 (p ∷ []) else refused 20 (p ∷ []))
-          (if b then refused 19 (p ∷ []) else refused 20 (p ∷ []))
+          → Agree s chain (when b then refused 19 (p ∷ []) else refused 20 (p ∷ []))
+          (when b then refused 19 (p ∷ []) else refused 20 (p ∷ []))
       by true = refl
       by false = refl
   agree_follow (suc left) chain (missing p) s good high = refl
@@ -270,10 +270,10 @@ module _ {S : Type 0} (put : S → ℕ → S) (law : FirstStands put) (g : Graph
           → ((u : Use) (s' : Met S) → Good s' → High s'.heights left (t ∷ chain)
           → Agree s' (t ∷ chain) (follow g left (t ∷ chain) u) (fast_follow put g left (t ∷ chain) u s'))
           → Agree s chain
-          (if b then refused 19 (p ∷ [])
+          (when b then refused 19 (p ∷ [])
           else both (gives (t ∷ [])) (each (follow g left (t ∷ chain)) (g t)))
-          (if b then refused 19 (p ∷ [])
-          else if fits (s.heights t) (suc left) then gives s
+          (when b then refused 19 (p ∷ [])
+          else when fits (s.heights t) (suc left) then gives s
           else map_answer (finish g t) (fast_each (fast_follow put g left (t ∷ chain)) (g t) (enter put t s)))
       by true e ih = refl
       by false e ih =

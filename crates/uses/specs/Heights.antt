@@ -1,7 +1,7 @@
 -- Heights: how long the longest chain of uses below a description is, kept for descriptions whose walk is finished.
 -- Assumes nothing.
 use Rattle.std.specs.Prelude.{◌≡◌, Bool, false, List, [], ◌∷◌, ℕ, suc, max, ◌<◌, eqb, ltb}
-use Rattle.base.specs.If.{if◌then◌else◌}
+use Rattle.base.specs.If.{when◌then◌else◌}
 use Rattle.base.specs.Tabulate.{Each}
 use Rattle.uses.specs.Walk.{Use, missing, found, Graph}
 
@@ -36,14 +36,14 @@ unfinished_height = 255
 -- a height that can be kept beside that one
 unfoldable pub low : Kept → Kept
 low unfinished = unfinished
-low (height h) = if ltb h unfinished_height then height h else unfinished
+low (height h) = when ltb h unfinished_height then height h else unfinished
 
 abbrev pub Low : Heights → Type 0
 Low m = (d h : ℕ) → m d ≡ height h → h < unfinished_height
 
 -- m with k kept for d
 unfoldable pub keep : Heights → ℕ → Kept → Heights
-keep m d k = λ x. if eqb x d then k else m x
+keep m d k = λ x. when eqb x d then k else m x
 
 -- the heights kept for open descriptions (those of the chain, being worked on), if any, are above h
 abbrev pub Above : Heights → ℕ → List ℕ → Type 0

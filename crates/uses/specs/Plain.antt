@@ -1,7 +1,7 @@
 -- The walk along the uses by plain recursion: the descriptions met, in order, with repetitions.
 -- Assumes nothing.
 use Rattle.std.specs.Prelude.{List, [], ◌∷◌, ◌++◌, ℕ, zero, suc}
-use Rattle.base.specs.If.{if◌then◌else◌}
+use Rattle.base.specs.If.{when◌then◌else◌}
 use Rattle.base.specs.Answer.{Answer, refused, gives, map_answer}
 use Rattle.uses.specs.Walk.{Use, missing, found, Graph, uses_most, bind, is_in}
 
@@ -18,10 +18,10 @@ each down (u ∷ us) = both (down u) (each down us)
 -- one's uses lead to
 unfoldable pub follow : Graph → (left : ℕ) (chain : List ℕ) → Use → Answer (List ℕ)
 follow g zero chain (missing p) = refused 18 (p ∷ [])
-follow g zero chain (found p t) = if is_in t chain then refused 19 (p ∷ []) else refused 20 (p ∷ [])
+follow g zero chain (found p t) = when is_in t chain then refused 19 (p ∷ []) else refused 20 (p ∷ [])
 follow g (suc left) chain (missing p) = refused 18 (p ∷ [])
 follow g (suc left) chain (found p t) =
-    if is_in t chain then refused 19 (p ∷ [])
+    when is_in t chain then refused 19 (p ∷ [])
     else both (gives (t ∷ [])) (each (follow g left (t ∷ chain)) (g t))
 
 -- the descriptions met from d on

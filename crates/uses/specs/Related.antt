@@ -7,7 +7,7 @@ use Rattle.std.proofs.Math.Bool.{true, false}
 use mathlib.Core.List.{List, [], ◌∷◌}
 use Prim.Native.Nat.{ℕ, zero, suc, ◌≤◌}
 use native.Mathlib.Omega.{arith}
-use Rattle.base.specs.If.{if◌then◌else◌}
+use Rattle.base.specs.If.{when◌then◌else◌}
 use Rattle.base.specs.Tabulate.{Each}
 use Rattle.base.specs.Answer.{Answer, refused, gives}
 use Rattle.uses.specs.Walk.{Use, missing, found, Graph, uses_most, bind, is_in, with_uses, brought, built}
@@ -45,8 +45,8 @@ module _ {S T : Type 0} (R : S → T → Type 0) (overS : S → S → S) (overT 
   brought_related g zero chain (missing p) = (refl, refl)
   brought_related g zero chain (found p t) = by (is_in t chain)
     where
-      by : (b : Bool) → RelatedAnswers R (if b then refused 19 (p ∷ []) else refused 20 (p ∷ []))
-          (if b then refused 19 (p ∷ []) else refused 20 (p ∷ []))
+      by : (b : Bool) → RelatedAnswers R (when b then refused 19 (p ∷ []) else refused 20 (p ∷ []))
+          (when b then refused 19 (p ∷ []) else refused 20 (p ∷ []))
       by true = (refl, refl)
       by false = (refl, refl)
   brought_related g (suc left) chain (missing p) = (refl, refl)
@@ -59,9 +59,9 @@ module _ {S T : Type 0} (R : S → T → Type 0) (overS : S → S → S) (overT 
           → RelatedAnswers R (with_uses overS (brought overS own_s g left (t ∷ chain)) (own_s t) (g t))
           (with_uses overT (brought overT ownT g left (t ∷ chain)) (ownT t) (g t))
           → RelatedAnswers R
-          (if b then refused 19 (p ∷ [])
+          (when b then refused 19 (p ∷ [])
           else with_uses overS (brought overS own_s g left (t ∷ chain)) (own_s t) (g t))
-          (if b then refused 19 (p ∷ [])
+          (when b then refused 19 (p ∷ [])
           else with_uses overT (brought overT ownT g left (t ∷ chain)) (ownT t) (g t))
       by true q = (refl, refl)
       by false q = q
@@ -116,7 +116,7 @@ module _ {S : Type 0} (over : S → S → S) (own : ℕ → S) (P : ℕ → Type
     brought_refused zero chain (missing p) h = (omega arith, omega arith, h, refl)
     brought_refused zero chain (found p t) h = by (is_in t chain)
       where
-        by : (b : Bool) → RefusedAt {S = S} P (if b then refused 19 (p ∷ []) else refused 20 (p ∷ []))
+        by : (b : Bool) → RefusedAt {S = S} P (when b then refused 19 (p ∷ []) else refused 20 (p ∷ []))
         by true = (omega arith, omega arith, h, refl)
         by false = (omega arith, omega arith, h, refl)
     brought_refused (suc left) chain (missing p) h = (omega arith, omega arith, h, refl)
@@ -127,7 +127,7 @@ module _ {S : Type 0} (over : S → S → S) (own : ℕ → S) (P : ℕ → Type
       where
         by : (b : Bool) → RefusedAt P (with_uses over (brought over own g left (t ∷ chain)) (own t) (g t))
             → RefusedAt P
-            (if b then refused 19 (p ∷ [])
+            (when b then refused 19 (p ∷ [])
             else with_uses over (brought over own g left (t ∷ chain)) (own t) (g t))
         by true q = (omega arith, omega arith, h, refl)
         by false q = q

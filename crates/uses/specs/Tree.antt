@@ -6,7 +6,7 @@ use Rattle.std.proofs.Common.{sym, ◌∙◌, arith}
 use Rattle.std.proofs.Math.Bool.{true, false}
 use mathlib.Core.List.{List, [], ◌∷◌, ◌++◌}
 use Prim.Native.Nat.{ℕ, zero, suc}
-use Rattle.base.specs.If.{if◌then◌else◌}
+use Rattle.base.specs.If.{when◌then◌else◌}
 use Rattle.base.specs.Answer.{Answer, refused, gives, map_answer}
 use Rattle.uses.specs.Walk.{Use, missing, found, Graph, uses_most, bind, is_in, with_uses, brought, built}
 use Rattle.uses.specs.Plain.{both, each, follow, walk, wanted}
@@ -56,7 +56,8 @@ module _ {S : Type 0} (over : S → S → S) (own : ℕ → S) where
     over_put x y (v ∷ vs) = over_put x (over y (own v)) vs ∙ ap (λ s. put_all put s vs) (sym (assoc x y (own v)))
 
     over_first : (x : S) (t : ℕ) (a : Answer (List ℕ))
-        → map_answer (over x) (map_answer (put_all put (own t)) a) ≡ map_answer (put_all put x) (both (gives (t ∷ [])) a)
+        → map_answer (over x) (map_answer (put_all put (own t)) a)
+        ≡ map_answer (put_all put x) (both (gives (t ∷ [])) a)
     unfolding put_all
     over_first x t (refused n v) = refl
     over_first x t (gives vs) = ap gives (over_put x (own t) vs)
@@ -68,8 +69,8 @@ module _ {S : Type 0} (over : S → S → S) (own : ℕ → S) where
     brought_follow g zero chain x (missing p) = refl
     brought_follow g zero chain x (found p t) = by (is_in t chain)
       where
-        by : (b : Bool) → map_answer (over x) (if b then refused 19 (p ∷ []) else refused 20 (p ∷ []))
-            ≡ map_answer (put_all put x) (if b then refused 19 (p ∷ []) else refused 20 (p ∷ []))
+        by : (b : Bool) → map_answer (over x) (when b then refused 19 (p ∷ []) else refused 20 (p ∷ []))
+            ≡ map_answer (put_all put x) (when b then refused 19 (p ∷ []) else refused 20 (p ∷ []))
         by true = refl
         by false = refl
     brought_follow g (suc left) chain x (missing p) = refl
@@ -80,10 +81,10 @@ module _ {S : Type 0} (over : S → S → S) (own : ℕ → S) where
             → ((y : S) (u : Use) → map_answer (over y) (brought over own g left (t ∷ chain) u)
             ≡ map_answer (put_all put y) (follow g left (t ∷ chain) u))
             → map_answer (over x)
-            (if b then refused 19 (p ∷ [])
+            (when b then refused 19 (p ∷ [])
             else with_uses over (brought over own g left (t ∷ chain)) (own t) (g t))
             ≡ map_answer (put_all put x)
-            (if b then refused 19 (p ∷ [])
+            (when b then refused 19 (p ∷ [])
             else both (gives (t ∷ [])) (each (follow g left (t ∷ chain)) (g t)))
         by true one = refl
         by false one =

@@ -2,7 +2,7 @@
 -- known by its number in the text; S is what a description says, and `over` merges two of them.
 -- Assumes nothing.
 use Rattle.std.specs.Prelude.{Bool, false, ◌||◌, List, [], ◌∷◌, ℕ, zero, suc, eqb}
-use Rattle.base.specs.If.{if◌then◌else◌}
+use Rattle.base.specs.If.{when◌then◌else◌}
 use Rattle.base.specs.Answer.{Answer, refused, gives}
 
 -- a `use` field, whose first byte is at a place: no description has the name, or the description that has it
@@ -38,10 +38,10 @@ module _ {S : Type 0} (over : S → S → S) where
 -- description's own over what that one's uses bring
 unfoldable pub brought : {S : Type 0} → (S → S → S) → (ℕ → S) → Graph → (left : ℕ) (chain : List ℕ) → Use → Answer S
 brought over own g zero chain (missing p) = refused 18 (p ∷ [])
-brought over own g zero chain (found p d) = if is_in d chain then refused 19 (p ∷ []) else refused 20 (p ∷ [])
+brought over own g zero chain (found p d) = when is_in d chain then refused 19 (p ∷ []) else refused 20 (p ∷ [])
 brought over own g (suc left) chain (missing p) = refused 18 (p ∷ [])
 brought over own g (suc left) chain (found p d) =
-    if is_in d chain then refused 19 (p ∷ [])
+    when is_in d chain then refused 19 (p ∷ [])
     else with_uses over (brought over own g left (d ∷ chain)) (own d) (g d)
 
 -- what a description comes to: its own over what its uses bring

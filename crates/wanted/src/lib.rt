@@ -1,5 +1,7 @@
 // Which description of a text is wanted: the one that has a name, or the text's first (document 02, 2026-02). Proved:
 // `is_wanted` and `find_wanted` answer as `wants` of specs/ and `wanted_in` of text/specs say. Assumed: nothing.
+#![tactic(auto)]
+
 ghost use Rattle.std.specs.Prelude.{◌≡◌, List};
 ghost use Rattle.edition.specs.declared.Edition.{Edition};
 ghost use Rattle.text.specs.Describing.{Description};

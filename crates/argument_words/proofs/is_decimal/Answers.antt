@@ -2,7 +2,6 @@
 -- Assumes nothing.
 use mathlib.Core.Path.{◌∙◌}
 use Rattle.argument_words.proofs.Laws.{decimal_empty, decimal_plain, decimal_minus}
-use borrow.Author.Rules.{rules}
 use Rattle.argument_words.proofs.is_decimal.Goals as goal
 
 pub returns-then-word-eq0 : goal.returns-then-word-eq0

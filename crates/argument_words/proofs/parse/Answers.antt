@@ -3,7 +3,6 @@
 use mathlib.Core.Path.{sym, ap, ◌∙◌}
 use Rattle.argument_words.specs.Argument.{number_of}
 use Rattle.argument_words.proofs.Laws.{word_empty, word_equals, word_number, word_text}
-use borrow.Author.Rules.{rules}
 use Rattle.argument_words.proofs.parse.Goals as goal
 
 pub returns-then-word-eq0 : goal.returns-then-word-eq0

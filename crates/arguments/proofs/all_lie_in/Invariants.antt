@@ -1,14 +1,11 @@
 -- `arguments::all_lie_in` meets its contract: an argument a turn.
 -- Assumes nothing.
-use mathlib.Core.Path.{◌≡◌, sym, ◌∙◌}
+use mathlib.Core.Path.{◌≡◌}
 use mathlib.Core.List.{List}
 use Prim.Native.Nat.{ℕ, ◌-◌, ◌≤◌}
 use lib.ListN.{length}
-use native.Mathlib.Omega.{arith}
-use borrow.Author.Rules.{rules}
-use borrow.Author.Tests.{not-true, not-false}
 use Rattle.expansion.specs.Arguments.{lies_in}
-use Rattle.arguments.proofs.Laws.{Passed, passed_start, passed_next, passed_not, passed_all}
+use Rattle.arguments.proofs.Laws.{Passed}
 use Rattle.arguments.proofs.all_lie_in.Given as goal
 
 abbrev pub invariant-loop-i : goal.invariant-loop-i

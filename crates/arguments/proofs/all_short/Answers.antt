@@ -1,13 +1,11 @@
 -- `arguments::all_short` meets its contract: an argument a turn.
 -- Assumes nothing.
-use mathlib.Core.Path.{◌≡◌, sym, ◌∙◌}
-use Prim.Native.Nat.{◌-◌, ◌≤◌}
-use lib.ListN.{length}
+use mathlib.Core.Path.{sym, ◌∙◌}
+use Prim.Native.Nat.{◌-◌}
 use native.Mathlib.Omega.{arith}
 use borrow.Author.Rules.{rules}
-use borrow.Author.Tests.{not-true, not-false}
 use Rattle.expansion.specs.Arguments.{is_short}
-use Rattle.arguments.proofs.Laws.{Passed, passed_start, passed_next, passed_not, passed_all}
+use Rattle.arguments.proofs.Laws.{passed_start, passed_next, passed_not, passed_all}
 use Rattle.arguments.proofs.all_short.Goals as goal
 
 pub loop-i-init : goal.loop-i-init

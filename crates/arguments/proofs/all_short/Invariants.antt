@@ -1,13 +1,10 @@
 -- `arguments::all_short` meets its contract: an argument a turn.
 -- Assumes nothing.
-use mathlib.Core.Path.{◌≡◌, sym, ◌∙◌}
+use mathlib.Core.Path.{◌≡◌}
 use Prim.Native.Nat.{◌-◌, ◌≤◌}
 use lib.ListN.{length}
-use native.Mathlib.Omega.{arith}
-use borrow.Author.Rules.{rules}
-use borrow.Author.Tests.{not-true, not-false}
 use Rattle.expansion.specs.Arguments.{is_short}
-use Rattle.arguments.proofs.Laws.{Passed, passed_start, passed_next, passed_not, passed_all}
+use Rattle.arguments.proofs.Laws.{Passed}
 use Rattle.arguments.proofs.all_short.Given as goal
 
 abbrev pub invariant-loop-i : goal.invariant-loop-i

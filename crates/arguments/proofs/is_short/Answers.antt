@@ -1,6 +1,5 @@
 -- `arguments::is_short` meets its contract, by the operand's kind.
 -- Assumes nothing.
-use borrow.Author.Rules.{rules}
 use Rattle.arguments.proofs.is_short.Goals as goal
 
 pub returns-in-Text : goal.returns-in-Text

@@ -1,6 +1,5 @@
 -- `arguments::lies_in` meets its contract, by the operand's kind.
 -- Assumes nothing.
-use borrow.Author.Rules.{rules}
 use Rattle.arguments.proofs.Laws.{lies_not, lies_by}
 use Rattle.arguments.proofs.lies_in.Goals as goal
 

@@ -1,6 +1,5 @@
 -- `arguments::numbers` meets its contract, place by place.
 -- Assumes nothing.
-use borrow.Author.Rules.{rules}
 use Rattle.arguments.proofs.Laws.{number_is, numbers_are}
 use Rattle.arguments.proofs.numbers.Goals as goal
 

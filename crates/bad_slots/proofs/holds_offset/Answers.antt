@@ -2,7 +2,6 @@
 use mathlib.Core.Path.{◌∙◌}
 use lib.Dec.{ltb}
 use Rattle.bad_slots.proofs.Laws.{no_header, past_end, in_file}
-use borrow.Author.Rules.{rules}
 use Rattle.bad_slots.proofs.holds_offset.Goals as goal
 
 pub returns-then-file-lt-HEADER_SIZE : goal.returns-then-file-lt-HEADER_SIZE

@@ -1,6 +1,5 @@
 -- `bad_slots::slot_at` meets its contract: by the sizes in the header.
 use borrow.Author.Tests.{lt-ltb, le-ltb}
-use borrow.Author.Rules.{rules}
 use Rattle.bad_slots.proofs.slot_at.Goals as goal
 
 pub returns-then-file-lt-HEADER_SIZE : goal.returns-then-file-lt-HEADER_SIZE

@@ -1,6 +1,5 @@
 -- `bad_slots::slot_of` meets its contract, case by case.
 use Rattle.entry.specs.Layout.{tables_of}
-use borrow.Author.Rules.{rules}
 use Rattle.bad_slots.proofs.slot_of.Goals as goal
 
 pub returns-in-Boolean : goal.returns-in-Boolean

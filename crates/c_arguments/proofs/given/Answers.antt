@@ -1,6 +1,5 @@
 -- `c_arguments::given` meets its contract, place by place.
 -- Assumes nothing.
-use lib.Dec.{lit<}
 use Rattle.c_arguments.proofs.Laws.{given_at, given_are}
 use Rattle.c_arguments.proofs.given.Goals as goal
 

@@ -2,7 +2,6 @@
 use mathlib.Core.Path.{ap, ◌∙◌}
 use Rattle.c_numbers.specs.Numbers.{boolean_number, number_number, string_number}
 use Rattle.c_asked.proofs.Laws.{string_within, asked_boolean, asked_number, asked_string, asked_none}
-use borrow.Author.Rules.{rules}
 use Rattle.c_asked.proofs.asked_number.Goals as goal
 
 pub returns-then-kind-eq0 : goal.returns-then-kind-eq0

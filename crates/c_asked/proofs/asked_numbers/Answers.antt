@@ -1,10 +1,9 @@
 -- `c_asked::asked_numbers` meets its contract. The invariant: the first i answers are stored.
-use Prim.Native.Nat.{ℕ, ◌+◌, ◌-◌, ◌≤◌}
+use Prim.Native.Nat.{ℕ, ◌+◌, ◌-◌}
 use mathlib.Core.List.{List, [], ◌∷◌, ◌++◌}
 use mathlib.Core.Path.{◌≡◌, refl, sym, ap, ◌∙◌}
 use native.Mathlib.Omega.{arith}
-use lib.ListN.{length, get_or}
-use Rattle.base.specs.Overwrite.{put_at}
+use lib.ListN.{get_or}
 use Rattle.base.proofs.OverwriteLaws.{put_nil, put_store, put_whole}
 use Rattle.base.specs.Tabulate.{tabulate}
 use Rattle.base.proofs.TabulateLaws.{length_tabulate, tabulate_more}

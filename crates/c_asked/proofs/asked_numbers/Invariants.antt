@@ -1,16 +1,12 @@
 -- `c_asked::asked_numbers` meets its contract. The invariant: the first i answers are stored.
-use Prim.Native.Nat.{ℕ, ◌+◌, ◌-◌, ◌≤◌}
-use mathlib.Core.List.{List, [], ◌∷◌, ◌++◌}
-use mathlib.Core.Path.{◌≡◌, refl, sym, ap, ◌∙◌}
-use native.Mathlib.Omega.{arith}
+use Prim.Native.Nat.{ℕ, ◌-◌, ◌≤◌}
+use mathlib.Core.List.{List}
+use mathlib.Core.Path.{◌≡◌}
 use lib.ListN.{length, get_or}
 use Rattle.base.specs.Overwrite.{put_at}
-use Rattle.base.proofs.OverwriteLaws.{put_nil, put_store, put_whole}
 use Rattle.base.specs.Tabulate.{tabulate}
-use Rattle.base.proofs.TabulateLaws.{length_tabulate, tabulate_more}
 use Rattle.edition.specs.declared.Edition.{Edition}
 use Rattle.c_asked.specs.Asked.{asked_code}
-use borrow.Author.Rules.{rules}
 use Rattle.c_asked.proofs.asked_numbers.Given as goal
 
 abbrev code : Edition → List ℕ → List ℕ → List ℕ → ℕ → ℕ

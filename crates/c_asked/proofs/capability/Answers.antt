@@ -2,7 +2,6 @@
 use mathlib.Core.Path.{ap, ◌∙◌}
 use Rattle.c_numbers.specs.Numbers.{numbered}
 use Rattle.c_asked.proofs.Laws.{named_boolean, named_number, named_string, named_none}
-use borrow.Author.Rules.{rules}
 use Rattle.c_asked.proofs.capability.Goals as goal
 
 pub returns-then-kind-eq0 : goal.returns-then-kind-eq0

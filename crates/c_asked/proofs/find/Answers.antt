@@ -3,7 +3,6 @@ use mathlib.Core.Path.{sym, ap, subst, ◌∙◌}
 use Rattle.names.specs.Finding.{says_found}
 use Rattle.c_numbers.specs.Numbers.{capability_number, FoundWithin}
 use Rattle.c_asked.proofs.Laws.{found_within}
-use borrow.Author.Rules.{rules}
 use Rattle.c_asked.proofs.find.Goals as goal
 
 pub found_number-requires : goal.found_number-requires

@@ -5,7 +5,6 @@ use Rattle.names.specs.Finding.{says_found}
 use Rattle.c_numbers.specs.Numbers.{boolean_number, number_number, string_number, refused_number}
 use Rattle.c_asked.specs.Asked.{found_state}
 use Rattle.c_asked.proofs.Laws.{string_within}
-use borrow.Author.Rules.{rules}
 use Rattle.c_asked.proofs.state.Goals as goal
 
 pub string_number-requires : goal.string_number-requires

@@ -6,7 +6,6 @@ use Rattle.text.specs.declared.Compiled.{Compiled}
 use Rattle.text.specs.Compiling.{says_compiled}
 use Rattle.building_laws.specs.Values.{Bounded}
 use Rattle.c_numbers.specs.Numbers.{numbered}
-use borrow.Author.Rules.{rules}
 use Rattle.c_numbers.proofs.compiled_number.Goals as goal
 
 pub overflow_add-result : goal.overflow_add-result

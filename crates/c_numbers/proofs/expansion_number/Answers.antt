@@ -6,7 +6,6 @@ use Rattle.expansion.specs.declared.Expansion.{Expansion}
 use Rattle.expansion.specs.Limits.{string_most, expansion_most}
 use Rattle.expansion.specs.Expanding.{Within}
 use Rattle.c_numbers.specs.Numbers.{numbered}
-use borrow.Author.Rules.{rules}
 use Rattle.c_numbers.proofs.expansion_number.Goals as goal
 
 abbrev InBits : Expansion → Type 0

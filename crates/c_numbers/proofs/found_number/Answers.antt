@@ -3,7 +3,6 @@
 use mathlib.Core.Path.{subst}
 use native.Mathlib.Omega.{arith}
 use Rattle.c_numbers.specs.Numbers.{kinded, FoundWithin}
-use borrow.Author.Rules.{rules}
 use Rattle.c_numbers.proofs.found_number.Goals as goal
 
 pub overflow_add-result : goal.overflow_add-result

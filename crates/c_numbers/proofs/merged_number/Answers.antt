@@ -5,7 +5,6 @@ use native.Mathlib.Omega.{arith}
 use Rattle.entry.specs.Says.{says_merged}
 use Rattle.c_numbers.specs.Numbers.{merging_number, MergedWithin}
 use Rattle.c_numbers.proofs.Laws.{merged_first, merged_second, file_bits}
-use borrow.Author.Rules.{rules}
 use Rattle.c_numbers.proofs.merged_number.Goals as goal
 
 pub file_number-requires : goal.file_number-requires

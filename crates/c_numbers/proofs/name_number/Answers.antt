@@ -1,7 +1,6 @@
 -- `c_numbers::name_number` meets its contract, case by case.
 -- Assumes nothing.
 use Rattle.c_numbers.specs.Numbers.{numbered}
-use borrow.Author.Rules.{rules}
 use Rattle.c_numbers.proofs.name_number.Goals as goal
 
 pub returns-in-Packed : goal.returns-in-Packed

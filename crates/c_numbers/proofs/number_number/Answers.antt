@@ -1,7 +1,6 @@
 -- `c_numbers::number_number` meets its contract, case by case.
 -- Assumes nothing.
 use Rattle.c_numbers.specs.Numbers.{kinded, state_code}
-use borrow.Author.Rules.{rules}
 use Rattle.c_numbers.proofs.number_number.Goals as goal
 
 pub returns-in-Absent : goal.returns-in-Absent

@@ -3,7 +3,6 @@
 use mathlib.Core.Path.{subst}
 use native.Mathlib.Omega.{arith}
 use Rattle.c_numbers.specs.Numbers.{kinded, state_code, StringWithin}
-use borrow.Author.Rules.{rules}
 use Rattle.c_numbers.proofs.string_number.Goals as goal
 
 pub overflow_mul-result : goal.overflow_mul-result

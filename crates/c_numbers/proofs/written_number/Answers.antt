@@ -3,7 +3,6 @@
 use mathlib.Core.Path.{subst}
 use native.Mathlib.Omega.{arith}
 use Rattle.c_numbers.specs.Numbers.{numbered, WrittenWithin}
-use borrow.Author.Rules.{rules}
 use Rattle.c_numbers.proofs.written_number.Goals as goal
 
 pub overflow_add-result : goal.overflow_add-result

@@ -2,7 +2,6 @@
 -- Assumes nothing.
 use mathlib.Core.Path.{refl, sym, subst}
 use native.Mathlib.Omega.{arith}
-use borrow.Author.Rules.{rules}
 use Rattle.base.proofs.IfLaws.{true_false}
 use Rattle.each_field.specs.Each.{Recorded}
 use Rattle.check_fields.proofs.check.Goals as goal

@@ -3,7 +3,6 @@
 use Prim.Native.Nat.{◌%◌}
 use borrow.Author.Tests.{lt-ltb, le-ltb, eq-eqb, ne_eqb}
 use Rattle.conditionals.specs.Walk.{nested}
-use borrow.Author.Rules.{rules}
 use Rattle.conditionals.proofs.nest.Goals as goal
 
 pub returns-in-Plain : goal.returns-in-Plain

@@ -2,7 +2,6 @@
 -- Assumes nothing.
 use mathlib.Core.Path.{sym, ◌∙◌}
 use Rattle.conditionals.proofs.ScanLaws.{argument_told}
-use borrow.Author.Rules.{rules}
 use Rattle.conditionals.proofs.quick_argument.Goals as goal
 
 pub returns-then-is_nonzero : goal.returns-then-is_nonzero

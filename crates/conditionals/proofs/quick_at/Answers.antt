@@ -2,7 +2,6 @@
 -- Assumes nothing.
 use native.Mathlib.Omega.{arith}
 use Rattle.conditionals.proofs.ScanLaws.{byte_told}
-use borrow.Author.Rules.{rules}
 use Rattle.conditionals.proofs.quick_at.Goals as goal
 
 pub returns-then-c-gt37 : goal.returns-then-c-gt37

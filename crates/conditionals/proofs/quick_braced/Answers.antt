@@ -2,9 +2,7 @@
 -- Assumes nothing.
 use mathlib.Core.Path.{sym, ◌∙◌}
 use native.Mathlib.Omega.{arith}
-use borrow.Author.Tests.{not-false}
 use Rattle.conditionals.proofs.ScanLaws.{one_digit_told, two_digits_told}
-use borrow.Author.Rules.{rules}
 use Rattle.conditionals.proofs.quick_braced.Goals as goal
 
 pub returns-then-s-j-eq125 : goal.returns-then-s-j-eq125

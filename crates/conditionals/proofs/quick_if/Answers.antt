@@ -1,7 +1,6 @@
 -- `conditionals::quick_if` meets its contract: the `%?` before the place is an item, and what is tested behind it two more.
 -- Assumes nothing.
 use Rattle.conditionals.proofs.ScanLaws.{if_told, test_told}
-use borrow.Author.Rules.{rules}
 use Rattle.conditionals.proofs.quick_if.Goals as goal
 
 pub returns-then-tests_argument : goal.returns-then-tests_argument

@@ -1,7 +1,6 @@
 -- `conditionals::quick_percent` meets its contract: each arm's byte is a case of the definition.
 -- Assumes nothing.
 use mathlib.Core.Path.{refl}
-use borrow.Author.Rules.{rules}
 use Rattle.expansion.specs.declared.Class.TheVariants.{Plain, Then, Else, End}
 use Rattle.expansion.specs.Items.{singles, found}
 use Rattle.expansion.specs.Form.{class_of}

@@ -1,11 +1,9 @@
 -- `conditionals::scan` meets its contract. The loop's invariant: what is left from here has the form of what is left from the start.
 -- The measure is what is left of the string. Assumes nothing.
 use mathlib.Core.Path.{refl, sym, ◌∙◌}
-use mathlib.Core.Logic.{⊎_elim}
 use Prim.Native.Nat.{◌+◌, ◌-◌, ◌<◌}
 use native.Mathlib.Omega.{arith}
 use lib.ListN.{length}
-use Rattle.conditionals.specs.Scan.{ScannedAs}
 use Rattle.conditionals.proofs.ScanLaws.{item_on, test_on, item_turn, test_turn}
 use Rattle.conditionals.proofs.scan.Goals as goal
 
@@ -16,7 +14,7 @@ pub loop-i-init : goal.loop-i-init
 loop-i-init c = record { form = refl; most = c.requires; on = omega arith }
 
 pub quick_at-requires : goal.quick_at-requires
-quick_at-requires c = ⊎_elim (λ w. omega arith) (λ w. omega arith) c.if-s-lt2.branch
+quick_at-requires c = elim c.if-s-lt2.branch [ goal.then-s-lt2 w ↦ omega arith | goal.else-s-lt2 w ↦ omega arith ]
 
 pub enum_known-class : goal.enum_known-class
 enum_known-class c = c.in-Item.in-Item-own.keys1
@@ -29,15 +27,15 @@ enum_known-k c = c.in-Go.in-Go-own.keys1
 
 pub loop-i-smaller-in-Go : goal.loop-i-smaller-in-Go
 loop-i-smaller-in-Go c =
-    let h : c.loop-i.i < length c.args.s.now = ⊎_elim (λ w. omega arith) (λ w. omega arith) c.if-s-lt2.branch in
+    let h : c.loop-i.i < length c.args.s.now = elim c.if-s-lt2.branch [ goal.then-s-lt2 w ↦ omega arith | goal.else-s-lt2 w ↦ omega arith ] in
     let t = rw c.in-Item.is at c.quick_at.ensures in
     omega (arith, item_on c.args.s.now c.loop-i.i c.in-Item.class c.in-Item.next h t)
 
 pub loop-i-preserved-in-Go : goal.loop-i-preserved-in-Go
 loop-i-preserved-in-Go c =
-    let h : c.loop-i.i < length c.args.s.now = ⊎_elim (λ w. omega arith) (λ w. omega arith) c.if-s-lt2.branch in
+    let h : c.loop-i.i < length c.args.s.now = elim c.if-s-lt2.branch [ goal.then-s-lt2 w ↦ omega arith | goal.else-s-lt2 w ↦ omega arith ] in
     let t = rw c.in-Item.is at c.quick_at.ensures in
-    item_turn c.args.s.now c.args.from c.args.before c.loop-i.i c.loop-i.auto c.loop-i.invariant c.in-Item.class c.in-Item.next c.in-Go.k h t
+    item_turn c.args.s.now c.args.from c.args.before c.loop-i.i c.loop-i.kept c.loop-i.invariant c.in-Item.class c.in-Item.next c.in-Go.k h t
     (sym c.nest.ensures ∙ c.in-Go.is)
 
 pub enum_told-1 : goal.enum_told-1
@@ -60,15 +58,15 @@ overflow_add-kept c = omega arith
 
 pub loop-i-smaller : goal.loop-i-smaller
 loop-i-smaller c =
-    let h : c.loop-i.i < length c.args.s.now = ⊎_elim (λ w. omega arith) (λ w. omega arith) c.if-s-lt2.branch in
+    let h : c.loop-i.i < length c.args.s.now = elim c.if-s-lt2.branch [ goal.then-s-lt2 w ↦ omega arith | goal.else-s-lt2 w ↦ omega arith ] in
     let t = rw c.in-Test.is at c.quick_at.ensures in
     omega (arith, test_on c.args.s.now c.loop-i.i c.in-Test.next t)
 
 pub loop-i-preserved : goal.loop-i-preserved
 loop-i-preserved c =
-    let h : c.loop-i.i + 2 < length c.args.s.now = ⊎_elim (λ w. omega arith) (λ w. omega arith) c.if-s-lt2.branch in
+    let h : c.loop-i.i + 2 < length c.args.s.now = elim c.if-s-lt2.branch [ goal.then-s-lt2 w ↦ omega arith | goal.else-s-lt2 w ↦ omega arith ] in
     let t = rw c.in-Test.is at c.quick_at.ensures in
-    test_turn c.args.s.now c.args.from c.args.before c.loop-i.i c.loop-i.auto c.loop-i.invariant c.in-Test.next h t c.if-kept-ge-NEST_FULL.false
+    test_turn c.args.s.now c.args.from c.args.before c.loop-i.i c.loop-i.kept c.loop-i.invariant c.in-Test.next h t c.if-kept-ge-NEST_FULL.false
 
 pub enum_told-in-Slow : goal.enum_told-in-Slow
 enum_told-in-Slow c = c.in-Slow.in-Slow-own.keys3

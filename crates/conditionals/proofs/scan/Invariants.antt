@@ -1,12 +1,8 @@
 -- `conditionals::scan` meets its contract. The loop's invariant: what is left from here has the form of what is left from the start.
 -- The measure is what is left of the string. Assumes nothing.
-use mathlib.Core.Path.{refl, sym, ◌∙◌}
-use mathlib.Core.Logic.{⊎_elim}
-use Prim.Native.Nat.{◌+◌, ◌-◌, ◌<◌}
-use native.Mathlib.Omega.{arith}
+use Prim.Native.Nat.{◌-◌}
 use lib.ListN.{length}
 use Rattle.conditionals.specs.Scan.{ScannedAs}
-use Rattle.conditionals.proofs.ScanLaws.{item_on, test_on, item_turn, test_turn}
 use Rattle.conditionals.proofs.scan.Given as goal
 
 abbrev pub invariant-loop-i : goal.invariant-loop-i

@@ -1,11 +1,6 @@
-use native.Mathlib.Omega.{arith}
-use Prim.Native.Nat.{◌-◌, ◌≤◌, zero-le}
-use mathlib.Core.Path.{refl, sym, ◌∙◌, subst}
-use mathlib.Core.List.{[]}
+use Prim.Native.Nat.{◌-◌, ◌≤◌}
 use lib.ListN.{length}
-use borrow.Author.Rules.{rules}
-use Rattle.text_laws.specs.Reads.{Forward, item_forward, item_past, Scanned, scanned_byte, scanned_removed, scanned_end, scanned_malformed}
-use Rattle.contents.proofs.UsualLaws.{as_told}
+use Rattle.text_laws.specs.Reads.{Scanned}
 use Rattle.contents.proofs.content_at.Given as goal
 
 abbrev pub invariant-loop-i : goal.invariant-loop-i

@@ -1,4 +1,3 @@
-use borrow.Author.Rules.{rules}
 use borrow.Author.Tests.{eq-eqb, ne_eqb}
 use Rattle.contents.specs.Usual.{is_control_at}
 use Rattle.contents.proofs.is_control_at.Goals as goal

@@ -1,4 +1,3 @@
-use borrow.Author.Rules.{rules}
 use borrow.Author.Tests.{eq-eqb, ne_eqb}
 use Rattle.contents.specs.Usual.{is_escape}
 use Rattle.contents.proofs.is_escape.Goals as goal

@@ -2,7 +2,6 @@ use mathlib.Core.Path.{◌∙◌}
 use Rattle.contents.proofs.UsualLaws.{digit_told}
 use borrow.Author.Tests.{eq-eqb, ne_eqb}
 use Rattle.contents.specs.Usual.{is_octal}
-use borrow.Author.Rules.{rules}
 use Rattle.contents.proofs.is_octal.Goals as goal
 
 pub returns-then-is_digit-2 : goal.returns-then-is_digit-2

@@ -1,5 +1,4 @@
 use Rattle.contents.specs.Usual.{octal_value}
-use borrow.Author.Rules.{rules}
 use Rattle.contents.proofs.octal.Goals as goal
 
 pub returns : goal.returns

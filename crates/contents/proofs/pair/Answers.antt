@@ -1,6 +1,5 @@
 use borrow.Author.Tests.{eq-eqb, ne_eqb}
 use Rattle.contents.specs.Usual.{pair_of}
-use borrow.Author.Rules.{rules}
 use Rattle.contents.proofs.pair.Goals as goal
 
 pub returns-then-text-at-eq94 : goal.returns-then-text-at-eq94

@@ -1,6 +1,5 @@
 use native.Mathlib.Omega.{arith}
 use Rattle.contents.proofs.UsualLaws.{tells_end, tells_itself}
-use borrow.Author.Rules.{rules}
 use Rattle.contents.proofs.usual_at.Goals as goal
 
 pub returns-then-b-gt44 : goal.returns-then-b-gt44

@@ -1,5 +1,4 @@
 use mathlib.Core.Path.{sym, ◌∙◌}
-use borrow.Author.Rules.{rules}
 use Rattle.contents.proofs.UsualLaws.{tells_control, tells_escape, tells_octal}
 use Rattle.contents.proofs.usual_escape.Goals as goal
 

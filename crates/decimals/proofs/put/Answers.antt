@@ -3,7 +3,6 @@
 use mathlib.Core.Path.{◌∙◌}
 use Prim.Native.Nat.{◌<◌}
 use native.Mathlib.Omega.{arith}
-use borrow.Author.Rules.{rules}
 use Rattle.expansion_laws.specs.DigitCount.{digits_ten}
 use Rattle.decimals.proofs.Rounds.{even_put, odd_put, odd_small}
 use Rattle.decimals.proofs.put.Goals as goal

@@ -4,7 +4,7 @@ use Prim.Native.Nat.{◌-◌}
 use native.Mathlib.Omega.{arith}
 use lib.ListN.{length-set}
 use Rattle.decimals.proofs.Laws.{below_100, pair_bytes}
-use Rattle.decimals.proofs.Rounds.{Round, round_none, round_length, round_room, round_more, round_all}
+use Rattle.decimals.proofs.Rounds.{round_none, round_length, round_room, round_more, round_all}
 use Rattle.decimals.proofs.put_pairs.Goals as goal
 
 pub loop-init : goal.loop-init

@@ -5,7 +5,6 @@ use native.Mathlib.Omega.{arith}
 use Rattle.base.proofs.IfLaws.{true_false}
 use Rattle.each_field.specs.Each.{uses_said}
 use Rattle.each_field.proofs.RecordLaws.{keeps_nothing, keeps_boolean, keeps_number, keeps_string, use_fits, keeps_use}
-use borrow.Author.Rules.{rules}
 use Rattle.each_field.proofs.count_use.Goals as goal
 
 pub returns-then-keeping : goal.returns-then-keeping

@@ -1,17 +1,13 @@
 -- `each_field::each` meets its contract. The loop's invariant: the arrays hold what the fields passed say, or the places
 -- of the uses among them.
 -- Assumes nothing.
-use mathlib.Core.Path.{◌≡◌, refl, sym, ◌∙◌, subst}
-use mathlib.Core.Bool.{true, false}
-use Prim.Native.Nat.{◌-◌, ◌≤◌}
+use mathlib.Core.Path.{refl, sym, ◌∙◌, subst}
+use Prim.Native.Nat.{◌-◌}
 use native.Mathlib.Omega.{arith}
-use lib.ListN.{length}
-use borrow.Author.Rules.{rules}
-use Rattle.entry.specs.Handed.{handed}
 use Rattle.judge.specs.Judged.{JudgedIn}
-use Rattle.each_field.proofs.WalkLaws.{Walking, walk_start, walk_end, walk_column, walk_refused, walk_go}
+use Rattle.each_field.proofs.WalkLaws.{walk_start, walk_end, walk_column, walk_refused, walk_go}
 use Rattle.each_field.proofs.WalkLaws.{walk_place, walk_forward, walk_few, walk_counts}
-use Rattle.each_field.proofs.RecordLaws.{Checking, check_start, check_end, check_column, check_refused, check_fits}
+use Rattle.each_field.proofs.RecordLaws.{check_start, check_end, check_column, check_refused, check_fits}
 use Rattle.each_field.proofs.RecordLaws.{check_go}
 use Rattle.each_field.proofs.each.Goals as goal
 

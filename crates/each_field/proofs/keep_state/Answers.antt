@@ -2,7 +2,6 @@
 -- Assumes nothing.
 use mathlib.Core.Path.{sym, ◌∙◌}
 use Rattle.base.proofs.IfLaws.{true_false}
-use borrow.Author.Rules.{rules}
 use Rattle.each_field.proofs.keep_state.Goals as goal
 
 pub keep-requires : goal.keep-requires

@@ -1,10 +1,9 @@
 -- `edition_words::before_comma` meets its contract: a byte a turn.
 -- Assumes nothing.
-use Prim.Native.Nat.{◌-◌, ◌≤◌}
+use Prim.Native.Nat.{◌-◌}
 use native.Mathlib.Omega.{arith}
-use lib.ListN.{length}
 use borrow.Author.Rules.{rules}
-use Rattle.edition_words.proofs.Laws.{Before, before_start, before_found, before_next, before_end}
+use Rattle.edition_words.proofs.Laws.{before_start, before_found, before_next, before_end}
 use Rattle.edition_words.proofs.before_comma.Goals as goal
 
 pub loop-i-init : goal.loop-i-init

@@ -1,10 +1,8 @@
 -- `edition_words::before_comma` meets its contract: a byte a turn.
 -- Assumes nothing.
 use Prim.Native.Nat.{◌-◌, ◌≤◌}
-use native.Mathlib.Omega.{arith}
 use lib.ListN.{length}
-use borrow.Author.Rules.{rules}
-use Rattle.edition_words.proofs.Laws.{Before, before_start, before_found, before_next, before_end}
+use Rattle.edition_words.proofs.Laws.{Before}
 use Rattle.edition_words.proofs.before_comma.Given as goal
 
 abbrev pub invariant-loop-i : goal.invariant-loop-i

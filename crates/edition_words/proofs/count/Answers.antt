@@ -2,7 +2,6 @@
 -- Assumes nothing.
 use mathlib.Core.Path.{◌∙◌}
 use Rattle.edition_words.proofs.Laws.{part_empty, part_digits}
-use borrow.Author.Rules.{rules}
 use Rattle.edition_words.proofs.count.Goals as goal
 
 pub returns-then-part-eq0 : goal.returns-then-part-eq0

@@ -2,7 +2,6 @@
 -- Assumes nothing.
 use native.Mathlib.Omega.{arith}
 use Rattle.edition_words.proofs.Laws.{booleans_wrong, numbers_wrong, strings_wrong, counts_given}
-use borrow.Author.Rules.{rules}
 use Rattle.edition_words.proofs.counted_by.Goals as goal
 
 pub returns-then-booleans-gt-COUNT_MOST : goal.returns-then-booleans-gt-COUNT_MOST

@@ -7,7 +7,6 @@ use lib.ListN.{take}
 use lib.Seq.{length-take-le}
 use Rattle.edition_words.specs.Words.{counted_by}
 use Rattle.edition_words.proofs.Laws.{second_last, second_more, rest_of}
-use borrow.Author.Rules.{rules}
 use Rattle.edition_words.proofs.counted_from.Goals as goal
 
 pub returns-then-rest-n : goal.returns-then-rest-n

@@ -9,7 +9,6 @@ use lib.Seq.{length-take-le}
 use Rattle.names.specs.Names.{parted}
 use Rattle.edition_words.specs.Words.{counted}
 use Rattle.edition_words.proofs.Laws.{word_one, word_alone, word_more, rest_of}
-use borrow.Author.Rules.{rules}
 use Rattle.edition_words.proofs.parse.Goals as goal
 
 pub returns-then-word-eq1 : goal.returns-then-word-eq1

@@ -1,11 +1,9 @@
 -- `entry_numbers::beyond_in` meets its contract: the numbers compared, then what opening answered.
 use mathlib.Core.Path.{sym, ap, ◌∙◌}
-use borrow.Author.Tests.{not-true, not-false}
 use Rattle.entry.specs.Says.{says_opened}
 use Rattle.opened_file.proofs.Laws.{asking_unopened}
 use Rattle.entry_numbers.proofs.EntryLaws.{asked_other, asked_same}
 use Rattle.entry_numbers.proofs.Laws.{beyond_given}
-use borrow.Author.Rules.{rules}
 use Rattle.read.proofs.open.Reads as open-reads
 use Rattle.entry_numbers.proofs.numbers_of.Reads as numbers-of-reads
 use Rattle.entry_numbers.proofs.same_numbers.Reads as same-numbers-reads

@@ -1,7 +1,5 @@
 -- `entry_numbers::boolean_in` meets its contract: the numbers compared, then what the file says.
-use borrow.Author.Tests.{not-true, not-false}
 use Rattle.entry_numbers.proofs.EntryLaws.{asked_other, asked_same}
-use borrow.Author.Rules.{rules}
 use Rattle.read.proofs.open.Reads as open-reads
 use Rattle.opened_file.proofs.boolean_if_opened.Reads as boolean-if-opened-reads
 use Rattle.entry_numbers.proofs.numbers_of.Reads as numbers-of-reads

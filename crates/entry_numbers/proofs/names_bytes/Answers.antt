@@ -6,7 +6,6 @@ use Rattle.entry.specs.Asking.{names_given}
 use Rattle.entry.specs.Says.{says_names}
 use Rattle.states.specs.Held.{IsPart}
 use Rattle.entry_numbers.proofs.Laws.{inside_same}
-use borrow.Author.Rules.{rules}
 use Rattle.entry_numbers.proofs.names_bytes.Goals as goal
 
 pub part-requires : goal.part-requires

@@ -1,10 +1,8 @@
 -- `entry_numbers::names_in` meets its contract: the numbers compared, then what the file says.
 use mathlib.Core.Path.{sym, ap, ◌∙◌}
-use borrow.Author.Tests.{not-true, not-false}
 use Rattle.entry.specs.Says.{says_opened}
 use Rattle.opened_file.proofs.Laws.{asking_unopened}
 use Rattle.entry_numbers.proofs.EntryLaws.{asked_other, asked_same}
-use borrow.Author.Rules.{rules}
 use Rattle.read.proofs.open.Reads as open-reads
 use Rattle.opened_file.proofs.names_opened.Reads as names-opened-reads
 use Rattle.entry_numbers.proofs.numbers_of.Reads as numbers-of-reads

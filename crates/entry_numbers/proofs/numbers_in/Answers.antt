@@ -1,7 +1,6 @@
 -- `entry_numbers::numbers_in` meets its contract: the numbers of what opening answers.
 use mathlib.Core.Path.{ap, ◌∙◌}
 use Rattle.entry_numbers.specs.Entries.{numbers_of}
-use borrow.Author.Rules.{rules}
 use Rattle.read.proofs.open.Reads as open-reads
 use Rattle.entry_numbers.proofs.numbers_of.Reads as numbers-of-reads
 use Rattle.entry_numbers.proofs.numbers_in.Goals as goal

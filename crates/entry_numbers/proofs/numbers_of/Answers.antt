@@ -1,5 +1,4 @@
 -- `entry_numbers::numbers_of` meets its contract: by what opening answered.
-use borrow.Author.Rules.{rules}
 use Rattle.entry_numbers.proofs.numbers_of.Goals as goal
 
 pub returns-in-Entry : goal.returns-in-Entry

@@ -1,7 +1,6 @@
 -- `entry_numbers::refusal_in` meets its contract: the numbers compared with what opening gives, then with an edition's
 -- refusal.
 use Rattle.entry_numbers.proofs.EntryLaws.{refusal_own, refusal_large, refusal_other}
-use borrow.Author.Rules.{rules}
 use Rattle.entry_numbers.proofs.refusal_in.Goals as goal
 
 pub returns-then-same_numbers : goal.returns-then-same_numbers

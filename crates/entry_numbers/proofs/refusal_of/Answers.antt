@@ -1,5 +1,4 @@
 -- `entry_numbers::refusal_of` meets its contract: by what opening answered.
-use borrow.Author.Rules.{rules}
 use Rattle.entry_numbers.proofs.refusal_of.Goals as goal
 
 pub returns-in-Refused : goal.returns-in-Refused

@@ -1,6 +1,5 @@
 -- `entry_numbers::same_numbers` meets its contract: the comparisons together.
 use Rattle.entry_numbers.proofs.EntryLaws.{compared}
-use borrow.Author.Rules.{rules}
 use Rattle.entry_numbers.proofs.same_numbers.Goals as goal
 
 pub returns : goal.returns

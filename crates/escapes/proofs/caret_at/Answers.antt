@@ -1,6 +1,5 @@
 use borrow.Author.Tests.{eq-eqb, ne_eqb}
 use Rattle.text.specs.Strings.{caret_at}
-use borrow.Author.Rules.{rules}
 use Rattle.escapes.proofs.caret_at.Goals as goal
 
 pub returns-then-b-eq63 : goal.returns-then-b-eq63

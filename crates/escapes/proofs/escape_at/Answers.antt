@@ -1,6 +1,5 @@
 use borrow.Author.Tests.{lt-ltb, le-ltb, eq-eqb, ne_eqb}
 use Rattle.text.specs.Strings.{escape_at}
-use borrow.Author.Rules.{rules}
 use Rattle.escapes.proofs.escape_at.Goals as goal
 
 pub returns-then-a-lt8 : goal.returns-then-a-lt8

@@ -2,7 +2,6 @@ use native.Mathlib.Omega.{arith}
 use Rattle.std.proofs.lemmas.Bool.Decides.{nat_tests}
 use Rattle.std.proofs.lemmas.Grind.{common_steps}
 use Rattle.text.specs.Strings.{string_item_at}
-use borrow.Author.Rules.{rules}
 use Rattle.escapes.proofs.item_at.Goals as goal
 
 pub returns-in-44 : goal.returns-in-44

@@ -1,6 +1,5 @@
 use Rattle.text.specs.Bytes.{is_in}
 use Rattle.text.specs.Strings.{line_end_at}
-use borrow.Author.Rules.{rules}
 use Rattle.escapes.proofs.line_end_at.Goals as goal
 
 pub returns-then-is_in : goal.returns-then-is_in

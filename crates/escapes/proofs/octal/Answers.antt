@@ -1,6 +1,5 @@
 use borrow.Author.Tests.{lt-ltb, le-ltb, le-leb, lt-leb}
 use Rattle.text.specs.Strings.{octal_of}
-use borrow.Author.Rules.{rules}
 use Rattle.escapes.proofs.octal.Goals as goal
 
 pub returns-then-v-le255 : goal.returns-then-v-le255

@@ -1,6 +1,5 @@
 use mathlib.Core.Path.{refl, sym, ◌∙◌}
 use native.Mathlib.Omega.{arith}
-use borrow.Author.Rules.{rules}
 use Rattle.text.specs.declared.ByteClass.TheVariants as C
 use Rattle.text_laws.specs.Runs.{run_le}
 use Rattle.text_laws.specs.FieldLaws.{byte_within, named_none, named_wrong, named_open, named_closed}

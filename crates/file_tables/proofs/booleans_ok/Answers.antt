@@ -2,7 +2,6 @@
 use mathlib.Core.Path.{◌∙◌}
 use native.Mathlib.Omega.{arith}
 use Rattle.file_tables.proofs.Laws.{at_booleans, in_booleans_lem, booleans_bad, booleans_good, pad_none, pad_byte}
-use borrow.Author.Rules.{rules}
 use Rattle.file_tables.proofs.booleans_ok.Goals as goal
 
 pub first_bad_boolean-requires : goal.first_bad_boolean-requires

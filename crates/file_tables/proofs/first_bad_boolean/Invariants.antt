@@ -2,12 +2,9 @@
 use Prim.Native.Nat.{ℕ, ◌+◌, ◌-◌, ◌≤◌}
 use mathlib.Core.Bool.{Bool}
 use mathlib.Core.List.{List}
-use mathlib.Core.Path.{◌≡◌, sym, ◌∙◌}
+use mathlib.Core.Path.{◌≡◌}
 use lib.ListN.{get_or}
-use borrow.Author.Tests.{not-true, not-false}
-use borrow.Author.Rules.{rules}
 use Rattle.base.specs.Scan.{scan}
-use Rattle.base.proofs.ScanLaws.{scan_step, scan_hit, scan_end, scan_start}
 use Rattle.entry.specs.State.{ok_boolean}
 use Rattle.file_tables.proofs.first_bad_boolean.Given as goal
 

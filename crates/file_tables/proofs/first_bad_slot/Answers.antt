@@ -1,12 +1,10 @@
 -- `file_tables::first_bad_slot` meets its contract. The invariant: the first bad slot is the first from i on.
-use Prim.Native.Nat.{ℕ, ◌+◌, ◌*◌, ◌-◌, ◌≤◌}
+use Prim.Native.Nat.{ℕ, ◌+◌, ◌*◌, ◌-◌}
 use mathlib.Core.Bool.{Bool}
 use mathlib.Core.List.{List}
-use mathlib.Core.Path.{◌≡◌, sym, ap, ◌∙◌}
+use mathlib.Core.Path.{sym, ap, ◌∙◌}
 use lib.Dec.{ltb}
-use borrow.Author.Tests.{not-true, not-false}
 use borrow.Author.Rules.{rules}
-use Rattle.base.specs.Scan.{scan}
 use Rattle.base.proofs.ScanLaws.{scan_step, scan_hit, scan_end, scan_start}
 use Rattle.word.specs.Word.{word}
 use Rattle.entry.specs.Limits.{short_width}

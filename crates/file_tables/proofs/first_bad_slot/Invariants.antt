@@ -2,12 +2,9 @@
 use Prim.Native.Nat.{ℕ, ◌+◌, ◌*◌, ◌-◌, ◌≤◌}
 use mathlib.Core.Bool.{Bool}
 use mathlib.Core.List.{List}
-use mathlib.Core.Path.{◌≡◌, sym, ap, ◌∙◌}
+use mathlib.Core.Path.{◌≡◌}
 use lib.Dec.{ltb}
-use borrow.Author.Tests.{not-true, not-false}
-use borrow.Author.Rules.{rules}
 use Rattle.base.specs.Scan.{scan}
-use Rattle.base.proofs.ScanLaws.{scan_step, scan_hit, scan_end, scan_start}
 use Rattle.word.specs.Word.{word}
 use Rattle.entry.specs.Limits.{short_width}
 use Rattle.entry.specs.State.{ok_slot}

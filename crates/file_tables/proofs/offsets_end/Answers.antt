@@ -1,11 +1,9 @@
 -- `file_tables::offsets_end` meets its contract. The invariant: the bytes from end on are no NUL.
-use Prim.Native.Nat.{ℕ, ◌+◌, ◌-◌, ◌≤◌, ◌<◌}
+use Prim.Native.Nat.{◌-◌}
 use mathlib.Core.Bool.{true}
-use mathlib.Core.Path.{◌≡◌}
 use native.Mathlib.Decide.{ℕ_discrete}
 use native.Mathlib.Omega.{arith}
 use borrow.Author.Tests.{ne_eqb}
-use Rattle.word.specs.Nul.{not_nul_at}
 use Rattle.file_tables.proofs.Laws.{offsets_below}
 use borrow.Author.Rules.{rules}
 use Rattle.file_tables.proofs.offsets_end.Goals as goal

@@ -2,12 +2,7 @@
 use Prim.Native.Nat.{ℕ, ◌+◌, ◌-◌, ◌≤◌, ◌<◌}
 use mathlib.Core.Bool.{true}
 use mathlib.Core.Path.{◌≡◌}
-use native.Mathlib.Decide.{ℕ_discrete}
-use native.Mathlib.Omega.{arith}
-use borrow.Author.Tests.{ne_eqb}
 use Rattle.word.specs.Nul.{not_nul_at}
-use Rattle.file_tables.proofs.Laws.{offsets_below}
-use borrow.Author.Rules.{rules}
 use Rattle.file_tables.proofs.offsets_end.Given as goal
 
 abbrev pub invariant-loop-end : goal.invariant-loop-end

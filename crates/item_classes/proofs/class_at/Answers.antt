@@ -3,7 +3,6 @@
 use borrow.Author.Tests.{ne_eqb}
 use Rattle.expansion.specs.Items.{byte_at, item_at}
 use Rattle.expansion.specs.Form.{class_of, class_at}
-use borrow.Author.Rules.{rules}
 use Rattle.item_classes.proofs.class_at.Goals as goal
 
 pub returns-then-c-eq0 : goal.returns-then-c-eq0

@@ -3,7 +3,6 @@
 use mathlib.Core.Path.{sym, ap, ◌∙◌}
 use Rattle.expansion.specs.Form.{class_of}
 use Rattle.item_parts.specs.Classes.{item_class, lexed_constant}
-use borrow.Author.Rules.{rules}
 use Rattle.item_classes.proofs.constant_class.Goals as goal
 
 pub returns-in-Constant : goal.returns-in-Constant

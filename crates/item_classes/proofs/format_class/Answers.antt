@@ -5,7 +5,6 @@ use mathlib.Core.Logic.{⊎_elim, inl, inr}
 use borrow.Author.Tests.{ne_eqb}
 use Rattle.expansion.specs.Items.{format_at}
 use Rattle.expansion.specs.Form.{class_of}
-use borrow.Author.Rules.{rules}
 use Rattle.item_classes.proofs.format_class.Goals as goal
 
 pub returns-in-100 : goal.returns-in-100

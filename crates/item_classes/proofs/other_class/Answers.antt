@@ -4,7 +4,6 @@ use borrow.Author.Tests.{eq-eqb, ne_eqb}
 use mathlib.Core.Path.{sym, ◌∙◌}
 use mathlib.Core.Bool.{true, false}
 use Rattle.expansion.specs.Form.{class_of}
-use borrow.Author.Rules.{rules}
 use Rattle.item_classes.proofs.other_class.Goals as goal
 
 pub returns-then-c-eq48 : goal.returns-then-c-eq48

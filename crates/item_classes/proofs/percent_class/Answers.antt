@@ -4,7 +4,6 @@ use mathlib.Core.Path.{◌≡◌, refl, ap, ◌∙◌}
 use mathlib.Core.List.{List, [], ◌∷◌}
 use mathlib.Core.Logic.{⊎_elim}
 use Prim.Native.Nat.{ℕ, ◌+◌}
-use borrow.Author.Rules.{rules}
 use types.Run.{OneOf}
 use Rattle.base.specs.Tabulate.{Each}
 use Rattle.expansion.specs.Items.{byte_at, singles, found, percent_at}

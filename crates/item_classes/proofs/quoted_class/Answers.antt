@@ -3,7 +3,6 @@
 use mathlib.Core.Path.{sym, ◌∙◌}
 use Rattle.expansion.specs.Items.{quoted_at}
 use Rattle.expansion.specs.Form.{class_of}
-use borrow.Author.Rules.{rules}
 use Rattle.item_classes.proofs.quoted_class.Goals as goal
 
 pub returns-then-is_quoted : goal.returns-then-is_quoted

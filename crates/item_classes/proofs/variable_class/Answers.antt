@@ -3,7 +3,6 @@
 use mathlib.Core.Path.{sym, ◌∙◌}
 use Rattle.expansion.specs.Items.{store_at, load_at}
 use Rattle.expansion.specs.Form.{class_of}
-use borrow.Author.Rules.{rules}
 use Rattle.item_classes.proofs.variable_class.Goals as goal
 
 pub returns-then-is_letter : goal.returns-then-is_letter

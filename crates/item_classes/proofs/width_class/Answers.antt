@@ -1,10 +1,8 @@
 -- `item_classes::width_class` meets its contract: the tests are the definition's, at the bytes read.
 -- Assumes nothing.
 use mathlib.Core.Path.{sym, ◌∙◌}
-use borrow.Author.Tests.{not-true, not-false}
 use Rattle.expansion.specs.Items.{width_at}
 use Rattle.expansion.specs.Form.{class_of}
-use borrow.Author.Rules.{rules}
 use Rattle.item_classes.proofs.width_class.Goals as goal
 
 pub returns-then-not-is_nonzero : goal.returns-then-not-is_nonzero

@@ -5,12 +5,8 @@ use mathlib.Core.Path.{◌≡◌, sym, ◌∙◌}
 use mathlib.Core.Bool.{true}
 use Prim.Native.Nat.{◌+◌, ◌-◌, ◌*◌, ◌≤◌}
 use native.Mathlib.Omega.{arith}
-use borrow.Author.Rules.{rules}
-use borrow.Author.Tests.{not-true, not-false}
-use lib.ListN.{length}
 use mir.Syntax.{w32}
 use mir.Facts.{to_z_pos}
-use Rattle.expansion.specs.Limits.{constant_most}
 use Rattle.expansion.specs.Items.{byte_at, is_digit, braced_at}
 use Rattle.item_parts.proofs.Cases.{within_true, braced_from, braced_start, braced_step, braced_large, braced_close, braced_other, braced_stop, braced_past, braced_first}
 use Rattle.item_parts.proofs.braced_at.Goals as goal

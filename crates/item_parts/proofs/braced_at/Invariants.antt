@@ -1,18 +1,13 @@
 -- `item_parts::braced_at` meets its contract. The loop's invariant: the digits from here on, behind the value so far, are the constant.
 -- The measure is what is left of the string.
 -- Assumes nothing.
-use mathlib.Core.Path.{◌≡◌, sym, ◌∙◌}
+use mathlib.Core.Path.{◌≡◌}
 use mathlib.Core.Bool.{true}
-use Prim.Native.Nat.{◌+◌, ◌-◌, ◌*◌, ◌≤◌}
-use native.Mathlib.Omega.{arith}
-use borrow.Author.Rules.{rules}
-use borrow.Author.Tests.{not-true, not-false}
+use Prim.Native.Nat.{◌+◌, ◌-◌, ◌≤◌}
 use lib.ListN.{length}
-use mir.Syntax.{w32}
-use mir.Facts.{to_z_pos}
 use Rattle.expansion.specs.Limits.{constant_most}
 use Rattle.expansion.specs.Items.{byte_at, is_digit, braced_at}
-use Rattle.item_parts.proofs.Cases.{within_true, braced_from, braced_start, braced_step, braced_large, braced_close, braced_other, braced_stop, braced_past, braced_first}
+use Rattle.item_parts.proofs.Cases.{braced_from}
 use Rattle.item_parts.proofs.braced_at.Given as goal
 
 abbrev pub invariant-loop-i : goal.invariant-loop-i

@@ -2,7 +2,6 @@
 -- Assumes nothing.
 use lib.ListN.{get_or-eq_default}
 use mathlib.Core.Path.{sym}
-use borrow.Author.Rules.{rules}
 use Rattle.item_parts.proofs.byte_at.Goals as goal
 
 pub returns-else-i-s : goal.returns-else-i-s

@@ -1,7 +1,6 @@
 -- `item_parts::is_quoted` meets its contract: the tests are the definition's, at the bytes read.
 -- Assumes nothing.
 use borrow.Author.Tests.{eq-eqb, ne_eqb}
-use borrow.Author.Rules.{rules}
 use Rattle.item_parts.proofs.is_quoted.Goals as goal
 
 pub returns-then-byte_at-eq0 : goal.returns-then-byte_at-eq0

@@ -3,7 +3,6 @@
 use mathlib.Core.Path.{sym, ◌∙◌}
 use Rattle.base.proofs.IfLaws.{true_false}
 use Rattle.item_parts.proofs.Cases.{argument_tested}
-use borrow.Author.Rules.{rules}
 use Rattle.item_parts.proofs.tests_argument.Goals as goal
 
 pub returns-then-s-i : goal.returns-then-s-i

@@ -1,7 +1,6 @@
 -- `items::condition` meets its contract: the `%?` is an item, and what is tested behind it two more.
 -- Assumes nothing.
 use native.Mathlib.Omega.{arith}
-use borrow.Author.Rules.{rules}
 use Prim.Native.Nat.{◌+◌}
 use Rattle.item_parts.specs.Right.{ArgumentTested}
 use Rattle.items.proofs.Laws.{if_inside, if_read, test_digit, test_read}

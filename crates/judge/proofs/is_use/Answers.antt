@@ -5,7 +5,6 @@ use mathlib.Core.Path.{ap}
 use lib.ListN.{length, get_or}
 use Rattle.names.specs.Names.{ascii}
 use Rattle.judge.proofs.Laws.{not_use, use_third}
-use borrow.Author.Rules.{rules}
 use Rattle.judge.proofs.is_use.Goals as goal
 
 pub returns-then-name-eq115 : goal.returns-then-name-eq115

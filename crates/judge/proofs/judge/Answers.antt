@@ -1,7 +1,6 @@
 -- `judge::judge` meets its contract: each arm is a case of the definition, and a field that is right has its name in the text.
 use mathlib.Core.Path.{sym, ◌∙◌}
 use Rattle.judge.proofs.Laws.{judged_malformed, judged_dropped, judged_named, field_name}
-use borrow.Author.Rules.{rules}
 use Rattle.judge.proofs.judge.Goals as goal
 
 pub returns-then-dropped : goal.returns-then-dropped

@@ -2,7 +2,6 @@
 use mathlib.Core.Path.{refl, ◌∙◌}
 use Rattle.names.proofs.Editions.{found_means}
 use Rattle.judge.proofs.Laws.{named_found}
-use borrow.Author.Rules.{rules}
 use Rattle.judge.proofs.judge_named.Goals as goal
 
 pub returns-in-Boolean : goal.returns-in-Boolean

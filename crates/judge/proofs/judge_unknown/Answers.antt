@@ -1,7 +1,6 @@
 -- `judge::judge_unknown` meets its contract: `use`, or unknown.
 use mathlib.Core.Path.{sym, ◌∙◌}
 use Rattle.judge.proofs.Laws.{named_use, named_unknown}
-use borrow.Author.Rules.{rules}
 use Rattle.judge.proofs.judge_unknown.Goals as goal
 
 pub returns-then-is_use : goal.returns-then-is_use

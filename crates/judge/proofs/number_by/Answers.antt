@@ -1,7 +1,6 @@
 -- `judge::number_by` meets its contract: each arm is a case of the definition.
 use Rattle.entry.specs.Writing.{state_of}
 use Rattle.text.specs.Describing.{saying_of}
-use borrow.Author.Rules.{rules}
 use Rattle.judge.proofs.number_by.Goals as goal
 
 pub returns-in-Boolean : goal.returns-in-Boolean

@@ -3,7 +3,6 @@ use Rattle.entry.specs.Writing.{state_of}
 use Rattle.text.specs.Describing.{saying_of}
 use Rattle.judge.proofs.Laws.{string_long, string_present}
 use native.Mathlib.Omega.{arith}
-use borrow.Author.Rules.{rules}
 use Rattle.judge.proofs.string_by.Goals as goal
 
 pub returns-then-n-gt-CONTENT_MOST : goal.returns-then-n-gt-CONTENT_MOST

@@ -1,6 +1,5 @@
 -- `judge::use_by` meets its contract: each arm is a case of the definition.
 use Rattle.judge.proofs.Laws.{use_long, use_said}
-use borrow.Author.Rules.{rules}
 use Rattle.judge.proofs.use_by.Goals as goal
 
 pub returns-then-n-gt-CONTENT_MOST : goal.returns-then-n-gt-CONTENT_MOST

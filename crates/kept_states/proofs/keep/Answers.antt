@@ -2,7 +2,6 @@
 -- Assumes nothing.
 use mathlib.Core.Path.{subst}
 use native.Mathlib.Omega.{arith}
-use borrow.Author.Rules.{rules}
 use Rattle.judge.specs.Judged.{SaidIn}
 use Rattle.compile_laws.proofs.KeepLaws.{keeps_nothing, keeps_use, keeps_boolean, keeps_number, keeps_string}
 use Rattle.kept_states.proofs.keep.Goals as goal

@@ -1,7 +1,6 @@
 -- `kept_states::keep_number` meets its contract: the test decides whether a field stands already.
 -- Assumes nothing.
 use mathlib.Core.Path.{sym}
-use borrow.Author.Rules.{rules}
 use Rattle.compile_laws.proofs.KeepLaws.{test_first, test_later}
 use Rattle.kept_states.proofs.keep_number.Goals as goal
 

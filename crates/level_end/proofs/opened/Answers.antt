@@ -2,7 +2,6 @@
 -- Assumes nothing.
 use mathlib.Core.Path.{ap}
 use native.Mathlib.Numerals.{add-one}
-use borrow.Author.Rules.{rules}
 use Rattle.expansion.specs.Machine.{passing}
 use Rattle.level_end.specs.declared.Turn.TheVariants.{Go}
 use Rattle.level_end.proofs.Laws.{else_level, else_inner, end_level, end_inner}

@@ -3,9 +3,8 @@
 -- Assumes nothing.
 use Prim.Native.Nat.{◌-◌}
 use native.Mathlib.Omega.{arith}
-use lib.ListN.{length}
 use Rattle.level_laws.proofs.OpenLaws.{open_inside, open_item}
-use Rattle.level_end.proofs.Laws.{Along, along_start, along_on, along_go, along_stop}
+use Rattle.level_end.proofs.Laws.{along_start, along_on, along_go, along_stop}
 use Rattle.level_end.proofs.pass.Goals as goal
 
 pub loop-n-init : goal.loop-n-init

@@ -2,10 +2,8 @@
 -- string.
 -- Assumes nothing.
 use Prim.Native.Nat.{◌-◌}
-use native.Mathlib.Omega.{arith}
 use lib.ListN.{length}
-use Rattle.level_laws.proofs.OpenLaws.{open_inside, open_item}
-use Rattle.level_end.proofs.Laws.{Along, along_start, along_on, along_go, along_stop}
+use Rattle.level_end.proofs.Laws.{Along}
 use Rattle.level_end.proofs.pass.Given as goal
 
 abbrev pub invariant-loop-n : goal.invariant-loop-n

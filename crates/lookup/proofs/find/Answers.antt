@@ -1,6 +1,5 @@
 -- `lookup::find` meets its contract: an edition means what the second means, if it knows the place.
 use mathlib.Core.Path.{sym}
-use borrow.Author.Rules.{rules}
 use Rattle.names.proofs.Editions.{found_means}
 use Rattle.lookup.proofs.find.Goals as goal
 

@@ -3,8 +3,6 @@
 -- ---- the needs
 use mathlib.Core.Path.{ap, ◌∙◌}
 use native.Mathlib.Omega.{arith}
-use borrow.Author.Rules.{rules}
-use Rattle.names.specs.declared.Found.TheVariants as F
 use Rattle.names.specs.Searching.{searching}
 use Rattle.names.proofs.LookupLaws.{Bytes, TablePlace, found_boolean, found_number, found_string, found_none}
 use Rattle.names.specs.Names.{second_edition, all_named}

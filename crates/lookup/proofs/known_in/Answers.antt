@@ -1,6 +1,5 @@
 -- `lookup::known_in` meets its contract, kind by kind.
 use borrow.Author.Tests.{lt-ltb, le-ltb}
-use borrow.Author.Rules.{rules}
 use Rattle.names.specs.Searching.{known_in}
 use Rattle.lookup.proofs.known_in.Goals as goal
 

@@ -1,7 +1,6 @@
 -- `lookup::pack` meets its contract, for each count of bytes that a name has.
 use native.Mathlib.Omega.{arith}
 use lib.Dec.{lit≤}
-use borrow.Author.Rules.{rules}
 use Rattle.word.specs.Word.{word}
 use Rattle.names.proofs.LookupLaws.{sought_short, sought_other, sought_nul, sought_bytes}
 use Rattle.lookup.proofs.pack.Goals as goal

@@ -1,7 +1,6 @@
 -- `lookup::short_at` meets its contract: a word of two bytes, each below 256.
 use native.Mathlib.Omega.{arith}
 use Rattle.word.proofs.WordLaws.{short_eq}
-use borrow.Author.Rules.{rules}
 use Rattle.lookup.proofs.short_at.Goals as goal
 
 pub returns : goal.returns

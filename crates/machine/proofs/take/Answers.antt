@@ -5,7 +5,6 @@ use mathlib.Core.List.{[], ◌∷◌}
 use Prim.Native.Nat.{ℕ}
 use lib.IntN.{ℤ}
 use mir.Facts.{to_z-of_z}
-use borrow.Author.Rules.{rules}
 use Rattle.signed.specs.Signed.{is_zero}
 use Rattle.signed.proofs.Laws.{again, called, called_two}
 use Rattle.characters.specs.Character.{character}

@@ -1,7 +1,5 @@
 -- `merge::merge` meets its contract: the edition, then what judging the first file says.
 use mathlib.Core.Path.{sym, ap, ◌∙◌}
-use borrow.Author.Rules.{rules}
-use borrow.Author.Tests.{not-true, not-false}
 use Rattle.entry.specs.Says.{says_judged}
 use Rattle.file_tables.proofs.Laws.{accepted_shorts}
 use Rattle.merge_states.proofs.Laws.{opens, merge_edition, merge_first}

@@ -1,7 +1,6 @@
 -- `merge::merge_filled` meets its contract: what is filled is the merged entry.
 use mathlib.Core.Path.{ap}
 use native.Mathlib.Omega.{arith}
-use borrow.Author.Rules.{rules}
 use Rattle.entry.specs.Writing.{encode}
 use Rattle.entry.specs.Says.{says_merged}
 use Rattle.entry_laws.specs.Merge.{edition_counts}

@@ -1,6 +1,5 @@
 -- `merge::merge_opened` meets its contract: by what filling the strings answers.
 use mathlib.Core.Path.{refl, subst}
-use borrow.Author.Rules.{rules}
 use Rattle.merge_states.specs.Filled.{StringsMeasured}
 use Rattle.merge_states.specs.declared.TableSize.{TableSize}
 use Rattle.merge_states.proofs.Laws.{strings_given, merge_large}

@@ -1,6 +1,5 @@
 -- `merge::merge_over` meets its contract: by what judging the second file says.
 use mathlib.Core.Path.{sym, ap, ◌∙◌}
-use borrow.Author.Rules.{rules}
 use Rattle.entry.specs.Says.{says_judged}
 use Rattle.file_tables.proofs.Laws.{accepted_shorts}
 use Rattle.merge_states.proofs.Laws.{opens, opened_edition, merge_second}

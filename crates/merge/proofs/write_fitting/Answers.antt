@@ -1,6 +1,5 @@
 -- `merge::write_fitting` meets its contract: the size that is tested is the file's length.
 use mathlib.Core.Path.{refl}
-use borrow.Author.Rules.{rules}
 use Rattle.merge_states.proofs.Laws.{ready_size, ready_sure, fit_size, fit_room, fit_file}
 use Rattle.merge.proofs.write_fitting.Goals as goal
 

@@ -1,6 +1,5 @@
 -- `merge_states::boolean_kind` meets its contract: by the state.
 use mathlib.Core.Path.{sym, ap}
-use borrow.Author.Rules.{rules}
 use Rattle.merge_states.specs.Filled.{boolean_kind}
 use Rattle.merge_states.proofs.boolean_kind.Goals as goal
 

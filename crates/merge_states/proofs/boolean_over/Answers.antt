@@ -1,5 +1,4 @@
 -- `merge_states::boolean_over` meets its contract: the first file's state stands unless it is absent.
-use borrow.Author.Rules.{rules}
 use Rattle.merge_states.proofs.Laws.{boolean_stands, boolean_leaves}
 use Rattle.merge_states.proofs.boolean_over.Goals as goal
 

@@ -1,9 +1,8 @@
 -- `merge_states::fill_numbers` meets its contract. The loop's invariant: the places passed are filled.
-use mathlib.Core.Path.{◌≡◌, refl}
-use Prim.Native.Nat.{◌≤◌, ◌-◌}
+use mathlib.Core.Path.{refl}
+use Prim.Native.Nat.{◌-◌}
 use native.Mathlib.Omega.{arith}
-use lib.ListN.{length, length-set}
-use Rattle.merge_states.specs.Filled.{NumbersFilled}
+use lib.ListN.{length-set}
 use Rattle.merge_states.proofs.Laws.{numbers_turn}
 use Rattle.merge_states.proofs.fill_numbers.Goals as goal
 

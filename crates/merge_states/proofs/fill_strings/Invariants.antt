@@ -1,14 +1,11 @@
 -- `merge_states::fill_strings` meets its contract. The loop's invariant: the places passed are filled, and the sum is the length of
 -- their string table, which is no longer than a file may be.
-use mathlib.Core.Path.{◌≡◌, refl}
-use Prim.Native.Nat.{◌+◌, ◌≤◌, ◌-◌}
-use native.Mathlib.Omega.{arith}
-use lib.ListN.{length, length-set}
-use Rattle.base.specs.Tabulate.{tabulate}
+use mathlib.Core.Path.{◌≡◌}
+use Prim.Native.Nat.{◌≤◌, ◌-◌}
+use lib.ListN.{length}
 use Rattle.entry.specs.Limits.{file_most}
-use Rattle.entry.specs.Writing.{string_table}
 use Rattle.merge_states.specs.Filled.{StringsFilled}
-use Rattle.merge_states.proofs.Laws.{table_of, table_turn, string_most_lem, table_whole, table_large, strings_turn}
+use Rattle.merge_states.proofs.Laws.{table_of}
 use Rattle.merge_states.proofs.fill_strings.Given as goal
 
 abbrev pub invariant-loop-i : goal.invariant-loop-i

@@ -1,6 +1,5 @@
 -- `merge_states::handed_number` meets its contract: by the state.
 use mathlib.Core.Path.{sym, ap}
-use borrow.Author.Rules.{rules}
 use Rattle.merge_states.specs.Filled.{handed_number}
 use Rattle.merge_states.proofs.handed_number.Goals as goal
 

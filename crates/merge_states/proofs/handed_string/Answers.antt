@@ -1,6 +1,5 @@
 -- `merge_states::handed_string` meets its contract: by the state.
 use mathlib.Core.Path.{sym, ap}
-use borrow.Author.Rules.{rules}
 use Rattle.merge_states.specs.Filled.{handed_string}
 use Rattle.merge_states.proofs.handed_string.Goals as goal
 

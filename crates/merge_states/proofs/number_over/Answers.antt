@@ -1,5 +1,4 @@
 -- `merge_states::number_over` meets its contract: the first file's state stands unless it is absent.
-use borrow.Author.Rules.{rules}
 use Rattle.merge_states.proofs.Laws.{number_stands, number_leaves}
 use Rattle.merge_states.proofs.number_over.Goals as goal
 

@@ -2,7 +2,6 @@
 -- count behind the first's.
 use mathlib.Core.Path.{ap}
 use native.Mathlib.Omega.{arith}
-use borrow.Author.Rules.{rules}
 use Rattle.merge_states.specs.declared.HandedString.{HandedString}
 use Rattle.merge_states.proofs.Laws.{opened_file, start_most, string_stands, string_leaves}
 use Rattle.merge_states.proofs.string_over.Goals as goal

@@ -2,7 +2,6 @@
 use Prim.Native.Nat.{◌+◌}
 use borrow.Author.Tests.{lt-ltb, le-ltb}
 use Rattle.names.proofs.NamingLaws.{packed_at}
-use borrow.Author.Rules.{rules}
 use Rattle.names.proofs.name_in.Goals as goal
 
 pub returns-then-count-place : goal.returns-then-count-place

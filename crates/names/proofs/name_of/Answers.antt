@@ -3,7 +3,6 @@ use mathlib.Core.Path.{sym, ap, ◌∙◌}
 use Rattle.edition.specs.declared.Kind.{Kind}
 use Rattle.names.specs.Naming.{naming}
 use Rattle.names.proofs.Laws.{named_boolean, named_number, named_string}
-use borrow.Author.Rules.{rules}
 use Rattle.names.proofs.name_of.Goals as goal
 
 pub returns-in-Boolean : goal.returns-in-Boolean

@@ -3,7 +3,6 @@ use mathlib.Core.Path.{refl}
 use Rattle.word.specs.Word.{word}
 use Rattle.names.specs.Names.{ascii, parted, named, boolean_names, number_names, string_names, all_names}
 use Rattle.names.specs.Naming.{packed, packed_names}
-use borrow.Author.Rules.{rules}
 use Rattle.names.proofs.packed_name.Goals as goal
 
 pub returns : goal.returns

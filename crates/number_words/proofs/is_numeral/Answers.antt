@@ -2,7 +2,6 @@
 -- Assumes nothing.
 use mathlib.Core.Path.{sym, ◌∙◌}
 use Rattle.number_words.proofs.Laws.{numeral_empty, numeral_none, numeral_some}
-use borrow.Author.Rules.{rules}
 use Rattle.number_words.proofs.is_numeral.Goals as goal
 
 pub returns-then-word-eq0 : goal.returns-then-word-eq0

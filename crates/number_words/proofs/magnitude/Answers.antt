@@ -1,11 +1,10 @@
 -- `number_words::magnitude` meets its contract: a digit a turn.
 -- Assumes nothing.
 use mathlib.Core.Path.{◌∙◌}
-use Prim.Native.Nat.{◌-◌, ◌≤◌}
+use Prim.Native.Nat.{◌-◌}
 use native.Mathlib.Omega.{arith}
-use lib.ListN.{length}
 use borrow.Author.Rules.{rules}
-use Rattle.number_words.proofs.Laws.{Magnitude, magnitude_start, magnitude_next, magnitude_end}
+use Rattle.number_words.proofs.Laws.{magnitude_start, magnitude_next, magnitude_end}
 use Rattle.number_words.proofs.magnitude.Goals as goal
 
 pub loop-i-init : goal.loop-i-init

@@ -3,7 +3,6 @@
 use mathlib.Core.Path.{◌∙◌}
 use Rattle.signed.proofs.Laws.{again}
 use Rattle.number_words.proofs.Laws.{negative_large, negative_none, negative_fits}
-use borrow.Author.Rules.{rules}
 use Rattle.number_words.proofs.negative.Goals as goal
 
 pub returns-then-n-gt-MAGNITUDE_MOST : goal.returns-then-n-gt-MAGNITUDE_MOST

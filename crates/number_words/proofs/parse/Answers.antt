@@ -7,7 +7,6 @@ use native.Mathlib.Omega.{arith}
 use lib.ListN.{length}
 use Rattle.number_words.specs.Number.{signed_of, magnitude_of}
 use Rattle.number_words.proofs.Laws.{rest_of, word_empty, word_positive, word_minus, word_negative}
-use borrow.Author.Rules.{rules}
 use Rattle.number_words.proofs.parse.Goals as goal
 
 pub returns-then-word-eq0 : goal.returns-then-word-eq0

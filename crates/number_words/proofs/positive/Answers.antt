@@ -3,7 +3,6 @@
 use mathlib.Core.Path.{◌∙◌}
 use Rattle.signed.proofs.Laws.{again}
 use Rattle.number_words.proofs.Laws.{positive_large, positive_fits}
-use borrow.Author.Rules.{rules}
 use Rattle.number_words.proofs.positive.Goals as goal
 
 pub returns-then-n-ge-MAGNITUDE_MOST : goal.returns-then-n-ge-MAGNITUDE_MOST

@@ -1,7 +1,6 @@
 -- `number_words::with_digit` meets its contract, by its tests in order.
 -- Assumes nothing.
 use Rattle.number_words.proofs.Laws.{digit_below, digit_above, digit_none, digit_large, digit_fits}
-use borrow.Author.Rules.{rules}
 use Rattle.number_words.proofs.with_digit.Goals as goal
 
 pub returns-then-c-lt48 : goal.returns-then-c-lt48

@@ -1,7 +1,6 @@
 -- `opened_file::boolean_opened` meets its contract: a place beyond the edition, past the table, and in it.
 use mathlib.Core.Path.{◌∙◌}
 use native.Mathlib.Omega.{arith}
-use borrow.Author.Rules.{rules}
 use borrow.Author.Tests.{le-ltb}
 use Rattle.file_tables.proofs.Laws.{at_booleans, in_booleans_lem}
 use Rattle.opened_file.proofs.Laws.{asking_unknown, framed, asked_boolean_past, asked_boolean}

@@ -1,6 +1,5 @@
 -- `opened_file::number_if_opened` meets its contract: by what opening answered.
 use mathlib.Core.Path.{sym, ap, ◌∙◌}
-use borrow.Author.Rules.{rules}
 use Rattle.entry.specs.Says.{says_opened}
 use Rattle.opened_file.proofs.Laws.{asking_unopened}
 use Rattle.opened_file.proofs.number_if_opened.Goals as goal

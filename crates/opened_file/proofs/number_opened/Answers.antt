@@ -1,7 +1,6 @@
 -- `opened_file::number_opened` meets its contract: a place beyond the edition, and what the slot says.
 use mathlib.Core.Path.{sym, ap, ◌∙◌, subst}
 use native.Mathlib.Omega.{arith}
-use borrow.Author.Rules.{rules}
 use borrow.Author.Tests.{le-ltb}
 use Rattle.file_tables.proofs.Laws.{at_numbers, in_numbers_lem}
 use Rattle.opened_file.specs.Opened.{says_slot, CodeFits}

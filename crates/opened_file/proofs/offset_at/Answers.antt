@@ -1,7 +1,6 @@
 -- `opened_file::offset_at` meets its contract: what the slot says, as an offset.
 use mathlib.Core.Path.{sym, ap, ◌∙◌}
 use native.Mathlib.Omega.{arith}
-use borrow.Author.Rules.{rules}
 use Rattle.file_tables.proofs.Laws.{at_strings, in_strings_lem}
 use Rattle.opened_file.specs.Opened.{says_slot}
 use Rattle.opened_file.proofs.Laws.{framed, opened_offset}

@@ -1,6 +1,5 @@
 -- `opened_file::slot_at` meets its contract: past the table, and by the code in it.
 use mathlib.Core.Path.{sym}
-use borrow.Author.Rules.{rules}
 use Rattle.entry_laws.specs.Slots.{slot_past}
 use Rattle.opened_file.proofs.Laws.{slot_absent, slot_cancelled, slot_present}
 use Rattle.opened_file.proofs.slot_at.Goals as goal

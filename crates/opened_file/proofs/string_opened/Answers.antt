@@ -1,6 +1,5 @@
 -- `opened_file::string_opened` meets its contract: a place beyond the edition, and what the slot's offset gives.
 use mathlib.Core.Path.{sym, ap, ◌∙◌}
-use borrow.Author.Rules.{rules}
 use borrow.Author.Tests.{le-ltb}
 use Rattle.entry.specs.declared.Part.{Part}
 use Rattle.entry.specs.State.{present}

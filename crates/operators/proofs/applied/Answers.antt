@@ -6,7 +6,6 @@ use Rattle.signed.proofs.Laws.{called_two}
 use Rattle.expansion.specs.declared.Operator.TheVariants.{BitAnd, BitOr, BitXor, And, Or}
 use Rattle.expansion.specs.Machine.{applied}
 use Rattle.operators.proofs.Laws.{equal_yes, equal_no}
-use borrow.Author.Rules.{rules}
 use Rattle.operators.proofs.applied.Goals as goal
 
 pub returns-in-Add : goal.returns-in-Add

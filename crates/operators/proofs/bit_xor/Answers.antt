@@ -3,7 +3,6 @@
 use lib.Bits.{bit_xor}
 use Rattle.signed.proofs.Laws.{by_bits}
 use Rattle.expansion.specs.Machine.{applied}
-use borrow.Author.Rules.{rules}
 use Rattle.operators.proofs.bit_xor.Goals as goal
 
 pub returns : goal.returns

@@ -7,7 +7,6 @@ use mir.Val.{of_z, to_z}
 use mir.Facts.{to_z-of_z}
 use Rattle.signed.proofs.Laws.{again}
 use Rattle.expansion.specs.Machine.{inverted}
-use borrow.Author.Rules.{rules}
 use Rattle.operators.proofs.inverted.Goals as goal
 
 pub returns : goal.returns

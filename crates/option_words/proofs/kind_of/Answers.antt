@@ -1,6 +1,5 @@
 -- `option_words::kind_of` meets its contract, by its tests in order.
 -- Assumes nothing.
-use borrow.Author.Rules.{rules}
 use borrow.Author.Tests.{lt-ltb, le-ltb, eq-eqb, ne_eqb}
 use Rattle.option_words.specs.Words.{kind_of}
 use Rattle.option_words.proofs.kind_of.Goals as goal

@@ -1,6 +1,5 @@
 -- `option_words::own_kind` meets its contract, arm by arm.
 -- Assumes nothing.
-use borrow.Author.Rules.{rules}
 use borrow.Author.Tests.{eq-eqb, ne_eqb}
 use Rattle.option_words.specs.Words.{own_kind}
 use Rattle.option_words.proofs.own_kind.Goals as goal

@@ -1,11 +1,10 @@
 -- `positions::position_of` meets its contract. The loop's invariant: line and column are those of the place i.
 -- Assumes nothing.
 use mathlib.Core.Path.{◌≡◌, sym, ◌∙◌}
-use Prim.Native.Nat.{◌-◌, ◌≤◌, min}
+use Prim.Native.Nat.{◌-◌, min}
 use lib.ListN.{length}
 use native.Mathlib.Omega.{arith}
-use borrow.Author.Rules.{rules}
-use Rattle.positions.proofs.Laws.{At, at_start, at_line_end, at_other}
+use Rattle.positions.proofs.Laws.{at_start, at_line_end, at_other}
 use Rattle.positions.proofs.position_of.Goals as goal
 use Rattle.positions.proofs.position_of.Goals.{then-text-i-eq10, else-text-i-eq10}
 

@@ -1,7 +1,6 @@
 -- `print::digit_byte` meets its contract, by the test of the digit.
 -- Assumes nothing.
 use borrow.Author.Tests.{lt-ltb, le-ltb}
-use borrow.Author.Rules.{rules}
 use Rattle.print.proofs.digit_byte.Goals as goal
 
 pub returns-then-digit-lt10 : goal.returns-then-digit-lt10

@@ -1,6 +1,5 @@
 -- `print::is_plain` meets its contract.
 -- Assumes nothing.
-use borrow.Author.Rules.{rules}
 use Rattle.print.proofs.is_plain.Goals as goal
 
 pub returns : goal.returns

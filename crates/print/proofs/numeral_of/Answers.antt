@@ -8,7 +8,6 @@ use mir.Val.{of_z}
 use mir.Facts.{to_z-of_z}
 use Rattle.expansion.specs.Print.{numeral}
 use Rattle.print.proofs.NumeralLaws.{minus_bits, decimal_minus, decimal_plain, unsigned}
-use borrow.Author.Rules.{rules}
 use Rattle.print.proofs.numeral_of.Goals as goal
 
 pub overflow_add-result : goal.overflow_add-result

@@ -8,7 +8,6 @@ use Rattle.base.specs.Overwrite.{put_at}
 use Rattle.print.specs.Numeral.{minus_sign, before}
 use Rattle.print.proofs.EmitLaws.{begun_fits, begun_not}
 use Rattle.print.proofs.NumeralLaws.{sign_short, length_before, before_front}
-use borrow.Author.Rules.{rules}
 use Rattle.print.proofs.put_before.Goals as goal
 
 pub overflow_add-count : goal.overflow_add-count

@@ -11,7 +11,6 @@ use Rattle.print.specs.Emit.{begun}
 use Rattle.print.specs.Numeral.{before}
 use Rattle.print.proofs.EmitLaws.{begun_none}
 use Rattle.print.proofs.NumeralLaws.{before_none}
-use borrow.Author.Rules.{rules}
 use Rattle.print.proofs.put_before_decimal.Goals as goal
 
 pub returns-then-is_plain : goal.returns-then-is_plain

@@ -5,7 +5,6 @@ use mathlib.Core.List.{[], ◌∷◌}
 use native.Mathlib.Omega.{arith}
 use Rattle.base.proofs.OverwriteLaws.{put_set}
 use Rattle.print.proofs.EmitLaws.{emitted_fits, emitted_not}
-use borrow.Author.Rules.{rules}
 use Rattle.print.proofs.put_byte.Goals as goal
 
 pub returns-then-at-out : goal.returns-then-at-out

@@ -10,7 +10,6 @@ use Rattle.decimals.specs.Decimals.{decimal_digits}
 use Rattle.decimals.proofs.Laws.{one_digit}
 use Rattle.print.specs.Emit.{emitted}
 use Rattle.print.proofs.EmitLaws.{emitted_fits, emitted_not}
-use borrow.Author.Rules.{rules}
 use Rattle.print.proofs.put_decimal.Goals as goal
 
 pub returns-then-n-lt10 : goal.returns-then-n-lt10

@@ -1,10 +1,9 @@
 -- `print::put_fill` meets its contract: after each turn the bytes so far are put.
 -- Assumes nothing.
 use mathlib.Core.Path.{◌≡◌, refl, sym}
-use Prim.Native.Nat.{◌+◌, ◌-◌, ◌≤◌}
+use Prim.Native.Nat.{◌+◌, ◌-◌}
 use native.Mathlib.Omega.{arith}
 use lib.ListN.{length, length-set, replicate, length-replicate, replicate-append-replicate}
-use Rattle.base.specs.Overwrite.{put_at}
 use Rattle.base.proofs.OverwriteLaws.{put_nil, put_store}
 use Rattle.print.proofs.put_fill.Goals as goal
 

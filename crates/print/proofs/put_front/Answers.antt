@@ -9,7 +9,6 @@ use Rattle.base.specs.Overwrite.{put_at}
 use Rattle.base.proofs.OverwriteLaws.{put_run}
 use Rattle.print.specs.Numeral.{minus_sign, front}
 use Rattle.print.proofs.NumeralLaws.{front_none}
-use borrow.Author.Rules.{rules}
 use Rattle.print.proofs.put_front.Goals as goal
 
 pub returns-then-missing-eq0 : goal.returns-then-missing-eq0

@@ -4,7 +4,7 @@ use native.Mathlib.Nat.{mod-lt, lt_of_lt_of_le}
 use native.Mathlib.Omega.{arith}
 use lib.ListN.{length-set}
 use Rattle.expansion_laws.specs.Digits.{div_falls}
-use Rattle.print.proofs.DigitLaws.{Placed, placed_none, placed_some, placed_length, placed_fits, placed_more, placed_all}
+use Rattle.print.proofs.DigitLaws.{placed_none, placed_some, placed_length, placed_fits, placed_more, placed_all}
 use Rattle.print.proofs.put_in_base.Goals as goal
 
 pub loop-left-init : goal.loop-left-init

@@ -5,7 +5,6 @@ use native.Mathlib.Omega.{arith}
 use lib.ListN.{length}
 use Rattle.base.proofs.OverwriteLaws.{put_nil, put_set}
 use Rattle.print.specs.Numeral.{minus_sign}
-use borrow.Author.Rules.{rules}
 use Rattle.print.proofs.put_sign.Goals as goal
 
 pub bounds-out-at : goal.bounds-out-at

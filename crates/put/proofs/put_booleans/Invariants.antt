@@ -1,18 +1,12 @@
 -- `put::put_booleans` meets its contract. The loop's invariant: the booleans passed are put.
 -- Assumes nothing.
-use mathlib.Core.Path.{◌≡◌, refl, sym, ap, ◌∙◌}
+use mathlib.Core.Path.{◌≡◌}
 use mathlib.Core.List.{map}
-use Prim.Native.Nat.{ℕ, ◌-◌, ◌≤◌}
-use native.Mathlib.Omega.{arith}
-use lib.ListN.{length, get_or, length-set}
-use borrow.Author.Rules.{rules}
-use Rattle.base.specs.Tabulate.{tabulate}
+use Prim.Native.Nat.{◌-◌, ◌≤◌}
+use lib.ListN.{length}
 use Rattle.base.specs.Overwrite.{put_at}
-use Rattle.base.proofs.OverwriteLaws.{put_nil}
 use Rattle.entry.specs.State.{boolean_code}
-use Rattle.entry.specs.Writing.{state_of}
 use Rattle.put.specs.Table.{booleans_of}
-use Rattle.put.proofs.TableLaws.{byte_turn}
 use Rattle.put.proofs.put_booleans.Given as goal
 
 abbrev pub invariant-loop-i : goal.invariant-loop-i

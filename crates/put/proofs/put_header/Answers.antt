@@ -3,7 +3,6 @@
 use mathlib.Core.Path.{refl, sym, ◌∙◌}
 use mathlib.Core.List.{[], ◌∷◌}
 use native.Mathlib.Omega.{arith}
-use borrow.Author.Rules.{rules}
 use Rattle.base.proofs.OverwriteLaws.{put_nil}
 use Rattle.word.specs.Word.{words}
 use Rattle.entry.specs.Writing.{header}

@@ -2,7 +2,6 @@
 -- Assumes nothing.
 use mathlib.Core.Path.{ap, ◌∙◌}
 use Prim.Native.Nat.{ℕ}
-use borrow.Author.Rules.{rules}
 use Rattle.base.specs.Overwrite.{put_at}
 use Rattle.word.specs.Word.{bytes}
 use Rattle.put.proofs.TableLaws.{offset_code_lem}

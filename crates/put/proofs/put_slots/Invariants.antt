@@ -1,20 +1,14 @@
 -- `put::put_slots` meets its contract. The loop's invariant: the slots passed are put, and the next present string starts at their total.
 -- Assumes nothing.
-use mathlib.Core.Path.{◌≡◌, refl, sym, ap, ◌∙◌}
+use mathlib.Core.Path.{◌≡◌}
 use mathlib.Core.List.{map}
-use Prim.Native.Nat.{ℕ, ◌-◌, ◌≤◌}
-use native.Mathlib.Omega.{arith}
-use lib.ListN.{length, get_or}
-use borrow.Author.Rules.{rules}
-use Rattle.base.specs.Tabulate.{tabulate}
+use Prim.Native.Nat.{◌-◌, ◌≤◌}
+use lib.ListN.{length}
 use Rattle.base.specs.Overwrite.{put_at}
-use Rattle.base.proofs.OverwriteLaws.{put_nil}
 use Rattle.word.specs.Word.{words}
 use Rattle.entry.specs.Limits.{offset_width}
-use Rattle.entry.specs.Reading.{offset}
-use Rattle.entry.specs.Writing.{offset_code, state_of}
-use Rattle.put.specs.Table.{total, slot_at, slots_of}
-use Rattle.put.proofs.TableLaws.{total_more, total_below, short_turn}
+use Rattle.entry.specs.Writing.{offset_code}
+use Rattle.put.specs.Table.{total, slots_of}
 use Rattle.put.proofs.put_slots.Given as goal
 
 abbrev pub invariant-loop-i : goal.invariant-loop-i

@@ -1,17 +1,12 @@
 -- `put::put_table` meets its contract. The loop's invariant: the strings passed are put, and the next place is behind their total.
 -- Assumes nothing.
-use mathlib.Core.Path.{◌≡◌, refl, sym, ap, ◌∙◌}
+use mathlib.Core.Path.{◌≡◌}
 use mathlib.Core.List.{◌++◌}
-use Prim.Native.Nat.{ℕ, ◌+◌, ◌-◌, ◌≤◌}
-use native.Mathlib.Omega.{arith}
+use Prim.Native.Nat.{◌+◌, ◌-◌, ◌≤◌}
 use lib.ListN.{length}
-use borrow.Author.Rules.{rules}
-use Rattle.base.specs.Tabulate.{tabulate}
 use Rattle.base.specs.Overwrite.{put_at}
-use Rattle.base.proofs.OverwriteLaws.{put_nil}
 use Rattle.entry.specs.Writing.{string_table}
-use Rattle.put.specs.Table.{string_at, strings_of, total}
-use Rattle.put.proofs.TableLaws.{total_more, total_below, lent_described, string_turn}
+use Rattle.put.specs.Table.{strings_of, total}
 use Rattle.put.proofs.put_table.Given as goal
 
 abbrev pub invariant-loop-i : goal.invariant-loop-i

@@ -1,7 +1,7 @@
 -- `put::table_size` meets its contract. The loop's invariant: the sum is that of the strings passed, which is at most that of all.
 -- Assumes nothing.
 use mathlib.Core.Path.{◌≡◌, refl, ap, ◌∙◌}
-use Prim.Native.Nat.{◌-◌, ◌≤◌}
+use Prim.Native.Nat.{◌-◌}
 use native.Mathlib.Omega.{arith}
 use borrow.Author.Rules.{rules}
 use Rattle.put.specs.Table.{total}

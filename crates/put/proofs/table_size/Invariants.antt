@@ -1,11 +1,8 @@
 -- `put::table_size` meets its contract. The loop's invariant: the sum is that of the strings passed, which is at most that of all.
 -- Assumes nothing.
-use mathlib.Core.Path.{◌≡◌, refl, ap, ◌∙◌}
+use mathlib.Core.Path.{◌≡◌}
 use Prim.Native.Nat.{◌-◌, ◌≤◌}
-use native.Mathlib.Omega.{arith}
-use borrow.Author.Rules.{rules}
 use Rattle.put.specs.Table.{total}
-use Rattle.put.proofs.TableLaws.{total_more, total_below}
 use Rattle.put.proofs.table_size.Given as goal
 
 abbrev pub invariant-loop-i : goal.invariant-loop-i

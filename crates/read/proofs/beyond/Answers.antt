@@ -1,6 +1,5 @@
 -- `read::beyond` meets its contract: field by field.
 use Rattle.entry.specs.Layout.{beyond_of}
-use borrow.Author.Rules.{rules}
 use Rattle.read.proofs.beyond.Goals as goal
 
 pub returns : goal.returns

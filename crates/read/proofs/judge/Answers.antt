@@ -2,11 +2,9 @@
 use Prim.Native.Nat.{ℕ, ◌+◌}
 use mathlib.Core.Path.{sym, ap, ◌∙◌}
 use native.Mathlib.Omega.{arith}
-use borrow.Author.Tests.{not-true, not-false}
 use Rattle.entry.specs.Layout.{size_of}
 use Rattle.entry.specs.Reading.{ok_counts}
 use Rattle.file_tables.proofs.Laws.{placed, counts_named, file_short, file_long, file_magic, file_counts, file-size}
-use borrow.Author.Rules.{rules}
 use Rattle.read.proofs.judge.Goals as goal
 
 pub returns-then-file-lt-HEADER_SIZE : goal.returns-then-file-lt-HEADER_SIZE

@@ -1,8 +1,6 @@
 -- `read::judge_tables` meets its contract: one law for each refusal, in order.
 use mathlib.Core.Path.{sym, ◌∙◌}
-use borrow.Author.Tests.{not-true, not-false}
 use Rattle.file_tables.proofs.Laws.{tables_names, tables_booleans, tables_numbers, tables-strings, tables-done}
-use borrow.Author.Rules.{rules}
 use Rattle.read.proofs.judge_tables.Goals as goal
 
 pub returns-then-not-names_ok : goal.returns-then-not-names_ok

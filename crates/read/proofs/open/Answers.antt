@@ -1,10 +1,8 @@
 -- `read::open` meets its contract: the edition, then what judging the file says.
 use mathlib.Core.Path.{sym, ap, ◌∙◌}
-use borrow.Author.Tests.{not-true, not-false}
 use Rattle.base.specs.Answer.{gives}
 use Rattle.entry.specs.Says.{says_judged}
 use Rattle.file_tables.proofs.Laws.{open_edition, open_file, accepted_shorts}
-use borrow.Author.Rules.{rules}
 use Rattle.read.proofs.open.Goals as goal
 
 pub returns-then-not-edition_ok : goal.returns-then-not-edition_ok

@@ -1,6 +1,5 @@
 -- `read::sizes` meets its contract: field by field.
 use Rattle.entry.specs.Layout.{sizes_of}
-use borrow.Author.Rules.{rules}
 use Rattle.read.proofs.sizes.Goals as goal
 
 pub returns : goal.returns

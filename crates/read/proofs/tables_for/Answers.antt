@@ -1,7 +1,6 @@
 -- `read::tables_for` meets its contract.
 use mathlib.Core.Path.{refl}
 use Rattle.entry.specs.Layout.{tables_of}
-use borrow.Author.Rules.{rules}
 use Rattle.read.proofs.tables_for.Goals as goal
 
 pub returns : goal.returns

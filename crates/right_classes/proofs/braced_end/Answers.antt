@@ -1,11 +1,9 @@
 -- `right_classes::braced_end` meets its contract. The loop's invariant: the digits from `i` on end where those from `j`
 -- on do. The measure is what is left of the string.
 -- Assumes nothing.
-use mathlib.Core.Path.{◌≡◌, refl, ap}
+use mathlib.Core.Path.{refl, ap}
 use Prim.Native.Nat.{ℕ, ◌+◌, ◌-◌}
 use native.Mathlib.Omega.{arith}
-use lib.ListN.{length}
-use Rattle.expansion.specs.Items.{digits_end}
 use Rattle.right_classes.proofs.PartLaws.{digits_inside, digits_step, digits_stop}
 use Rattle.right_classes.proofs.braced_end.Goals as goal
 

@@ -1,7 +1,6 @@
 -- `right_classes::class_at` meets its contract: the byte read tells whether the item starts with `%`.
 -- Assumes nothing.
 use mathlib.Core.Path.{◌∙◌}
-use borrow.Author.Rules.{rules}
 use Rattle.right_classes.proofs.PartLaws.{percent_right, percent_class, item_byte}
 use Rattle.right_classes.proofs.class_at.Goals as goal
 

@@ -1,6 +1,6 @@
 -- `signed::quotient` meets its contract: only the quotient by -1 can wrap, and it is 0 less the left operand.
 -- Assumes nothing.
-use Rattle.std.proofs.Common.{pos, sym, ap, ◌∙◌, to_z-of_z, w32, SFits, of_z, rules}
+use Rattle.std.proofs.Common.{pos, sym, ap, ◌∙◌, to_z-of_z, w32, SFits, of_z}
 use lib.Signed.{quot_z}
 use Rattle.signed.specs.Signed.{divide, subtract}
 use Rattle.signed.proofs.Laws.{again, zero_of, minus_one_of, quot_minus_one, quot_fits, not_zero, div_is}

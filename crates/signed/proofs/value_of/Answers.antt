@@ -1,6 +1,6 @@
 -- `signed::value_of` meets its contract: bits below 2^31 are the value, others the value and 2^32.
 -- Assumes nothing.
-use Rattle.std.proofs.Common.{◌≡◌, pos, ◌-ℤ◌, arith, to_z-of_z, w32, w64, SFits, to_z, rules}
+use Rattle.std.proofs.Common.{◌≡◌, pos, ◌-ℤ◌, arith, to_z-of_z, w32, w64, SFits, to_z}
 use mir.Facts.{sfits_widen, sfits_to_z}
 use Rattle.signed.proofs.Laws.{lowered}
 use Rattle.signed.proofs.value_of.Goals as goal

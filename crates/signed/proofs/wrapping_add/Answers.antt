@@ -1,6 +1,6 @@
 -- `signed::wrapping_add` meets its contract: the bits of the sum are the sum of the bits mod 2^32.
 -- Assumes nothing.
-use Rattle.std.proofs.Common.{◌+◌, ◌%◌, ◌^◌, ap, ◌∙◌, w32, to_z, rules}
+use Rattle.std.proofs.Common.{◌+◌, ◌%◌, ◌^◌, ap, ◌∙◌, w32, to_z}
 use Rattle.signed.specs.Signed.{add, wrap}
 use Rattle.signed.proofs.Laws.{by_bits, low_add}
 use Rattle.signed.proofs.wrapping_add.Goals as goal

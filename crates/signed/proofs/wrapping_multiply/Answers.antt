@@ -1,6 +1,6 @@
 -- `signed::wrapping_multiply` meets its contract: the bits of the product are the product of the bits mod 2^32.
 -- Assumes nothing.
-use Rattle.std.proofs.Common.{◌*◌, ◌%◌, ◌^◌, ap, ◌∙◌, w32, to_z, rules}
+use Rattle.std.proofs.Common.{◌*◌, ◌%◌, ◌^◌, ap, ◌∙◌, w32, to_z}
 use Rattle.signed.specs.Signed.{multiply, wrap}
 use Rattle.signed.proofs.Laws.{by_bits, low_mul}
 use Rattle.signed.proofs.wrapping_multiply.Goals as goal

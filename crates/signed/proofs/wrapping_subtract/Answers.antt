@@ -1,6 +1,6 @@
 -- `signed::wrapping_subtract` meets its contract: the bits of the difference are the one number below 2^32 that leads back to the left operand's bits.
 -- Assumes nothing.
-use Rattle.std.proofs.Common.{ℕ, ◌+◌, ◌%◌, ◌^◌, sym, ap, ◌∙◌, to_z-of_z, w32, to_z, of_z, rules}
+use Rattle.std.proofs.Common.{ℕ, ◌+◌, ◌%◌, ◌^◌, sym, ap, ◌∙◌, to_z-of_z, w32, to_z, of_z}
 use Rattle.signed.specs.Signed.{subtract, wrap}
 use Rattle.signed.proofs.Laws.{again, low_sub}
 use Rattle.signed.proofs.wrapping_subtract.Goals as goal

@@ -1,6 +1,5 @@
 -- `states::names` meets its contract: by what opening answers.
 use mathlib.Core.Path.{sym, ap, ◌∙◌}
-use borrow.Author.Rules.{rules}
 use Rattle.entry.specs.Says.{says_opened}
 use Rattle.opened_file.proofs.Laws.{asking_unopened}
 use Rattle.states.proofs.names.Goals as goal

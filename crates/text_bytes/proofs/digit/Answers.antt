@@ -1,7 +1,6 @@
 use borrow.Author.Tests.{le-leb, lt-leb}
 use native.Mathlib.Omega.{arith}
 use Rattle.text.specs.Bytes.{digit_of}
-use borrow.Author.Rules.{rules}
 use Rattle.text_bytes.proofs.digit.Goals as goal
 
 pub returns-in-48-to-57 : goal.returns-in-48-to-57

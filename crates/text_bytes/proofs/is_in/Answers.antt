@@ -1,6 +1,5 @@
-use borrow.Author.Tests.{le-leb, lt-leb, eq-eqb, ne_eqb}
-use mathlib.Core.Logic.{⊎_elim, inl, inr}
-use mathlib.Core.Bool.{and-true}
+use borrow.Author.Tests.{lt-leb, eq-eqb, ne_eqb}
+use mathlib.Core.Logic.{⊎_elim}
 use Rattle.text.specs.Bytes.{is_blank, is_name, is_alias, is_last_name, is_in}
 use native.Mathlib.Omega.{arith}
 use Rattle.std.proofs.lemmas.Bool.Decides.{nat_tests}

@@ -1,10 +1,7 @@
 use native.Mathlib.Omega.{arith}
 use Prim.Native.Nat.{◌-◌}
-use mathlib.Core.Path.{◌≡◌, refl, ap}
+use mathlib.Core.Path.{ap}
 use mathlib.Core.Bool.{not}
-use lib.ListN.{length}
-use borrow.Author.Rules.{rules}
-use Rattle.text.specs.Bytes.{run_end}
 use Rattle.text_laws.specs.Runs.{run_goes, run_stops, run_done}
 use Rattle.text_bytes.proofs.run_end.Goals as goal
 

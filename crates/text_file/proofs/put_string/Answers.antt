@@ -1,7 +1,6 @@
 -- `text_file::put_string` meets its contract: the bytes put by the call, and a store behind them.
 -- Assumes nothing.
 use mathlib.Core.Path.{refl}
-use borrow.Author.Rules.{rules}
 use Rattle.entry.specs.Writing.{state_of}
 use Rattle.text.specs.Strings.{read_at, read_bytes}
 use Rattle.compile_laws.proofs.WriteLaws.{read_put}

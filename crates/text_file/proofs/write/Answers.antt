@@ -2,7 +2,6 @@
 -- Assumes nothing.
 use mathlib.Core.Path.{◌≡◌, ap, ◌∙◌}
 use native.Mathlib.Omega.{arith}
-use borrow.Author.Rules.{rules}
 use Rattle.entry.specs.Layout.{size_of, table_at}
 use Rattle.entry.specs.Handed.{handed}
 use Rattle.write_laws.specs.File.{sizes_handed, head, slots}

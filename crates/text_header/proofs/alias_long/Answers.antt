@@ -1,9 +1,7 @@
 use Prim.Native.Nat.{◌-◌}
 use Rattle.text_header.proofs.alias_long.Goals.{then-names-i-eq124+else-i-start-gt-ALIAS_MOST, else-names-i-eq124}
 use native.Mathlib.Omega.{arith}
-use lib.ListN.{length}
-use borrow.Author.Rules.{rules}
-use Rattle.text_laws.specs.HeadingLaws.{Passed, passed_none, passed_more, passed_bar, passed_long, passed_all}
+use Rattle.text_laws.specs.HeadingLaws.{passed_none, passed_more, passed_bar, passed_long, passed_all}
 use Rattle.text_header.proofs.alias_long.Goals as goal
 
 pub loop-i-init : goal.loop-i-init

@@ -1,9 +1,6 @@
 use Prim.Native.Nat.{◌-◌}
-use mathlib.Core.Logic.{⊎_elim}
-use native.Mathlib.Omega.{arith}
 use lib.ListN.{length}
-use borrow.Author.Rules.{rules}
-use Rattle.text_laws.specs.HeadingLaws.{Passed, passed_none, passed_more, passed_bar, passed_long, passed_all}
+use Rattle.text_laws.specs.HeadingLaws.{Passed}
 use Rattle.text_header.proofs.alias_long.Given as goal
 
 abbrev pub invariant-loop-i : goal.invariant-loop-i

@@ -1,6 +1,4 @@
 use mathlib.Core.Path.{sym, ◌∙◌}
-use borrow.Author.Rules.{rules}
-use borrow.Author.Tests.{not-true, not-false}
 use Rattle.text.specs.declared.ByteClass.TheVariants as C
 use Rattle.text_laws.specs.Runs.{run_ge}
 use Rattle.text_laws.specs.HeadingLaws.{header_past, header_wrong, header_more, header_long, header_is}

@@ -1,6 +1,5 @@
 use mathlib.Core.Path.{sym, ◌∙◌}
-use borrow.Author.Rules.{rules}
-use borrow.Author.Tests.{le-ltb, not-true, not-false}
+use borrow.Author.Tests.{le-ltb}
 use Rattle.text.specs.declared.ByteClass.TheVariants as C
 use Rattle.text_laws.specs.HeadingLaws.{made_none, made_run}
 use Rattle.text_header.proofs.last_right.Goals as goal

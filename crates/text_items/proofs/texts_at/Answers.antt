@@ -2,7 +2,6 @@
 -- Assumes nothing.
 use mathlib.Core.Path.{sym, ◌∙◌}
 use Rattle.text_items.proofs.Laws.{byte_none, percent_none, percent_one}
-use borrow.Author.Rules.{rules}
 use Rattle.text_items.proofs.texts_at.Goals as goal
 
 pub returns-then-s-i-ne37 : goal.returns-then-s-i-ne37

@@ -1,10 +1,8 @@
 use native.Mathlib.Omega.{arith}
 use native.Mathlib.Nat.{le_of_lt}
 use Prim.Native.Nat.{◌-◌, ◌≤◌}
-use mathlib.Core.Path.{◌≡◌, refl, sym, ◌∙◌}
+use mathlib.Core.Path.{refl, sym, ◌∙◌}
 use lib.ListN.{length}
-use borrow.Author.Rules.{rules}
-use Rattle.text.specs.Lines.{line_at}
 use Rattle.text_laws.specs.Runs.{run_ge, run_le}
 use Rattle.text_laws.specs.LineLaws.{lines_end, lines_blank, lines_comment, lines-column, lines-indented}
 use Rattle.text_lines.proofs.line_at.Goals as goal

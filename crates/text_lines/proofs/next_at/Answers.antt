@@ -1,6 +1,5 @@
 use mathlib.Core.Path.{sym, ◌∙◌}
 use native.Mathlib.Omega.{arith}
-use borrow.Author.Rules.{rules}
 use Rattle.text_lines.proofs.UsualLaws.{usual_within, next_usual}
 use Rattle.text_lines.proofs.next_at.Goals as goal
 

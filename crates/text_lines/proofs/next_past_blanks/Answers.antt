@@ -1,6 +1,5 @@
 use borrow.Author.Tests.{le-leb, lt-leb, eq-eqb, ne_eqb}
 use Rattle.text.specs.Lines.{next_at}
-use borrow.Author.Rules.{rules}
 use Rattle.text_lines.proofs.next_past_blanks.Goals as goal
 
 pub returns-then-text-j : goal.returns-then-text-j

@@ -1,5 +1,4 @@
 use mathlib.Core.Logic.{⊎_elim, inl, inr}
-use borrow.Author.Rules.{rules}
 use borrow.Author.Tests.{ne_eqb}
 use Rattle.text_numbers.specs.Bases.{base_at}
 use Rattle.text_numbers.proofs.base_at.Goals as goal

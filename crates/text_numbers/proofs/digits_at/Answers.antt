@@ -1,4 +1,3 @@
-use borrow.Author.Rules.{rules}
 use Rattle.text_laws.specs.NumberLaws.{base_fits, digits_after, digits_none, digits_within, digits_many, digits-large, digits-small}
 use Rattle.text_numbers.proofs.digits_at.Goals as goal
 

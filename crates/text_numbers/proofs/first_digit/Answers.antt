@@ -1,4 +1,3 @@
-use borrow.Author.Rules.{rules}
 use Rattle.text_numbers.proofs.first_digit.Goals as goal
 
 pub returns-in-Octal : goal.returns-in-Octal

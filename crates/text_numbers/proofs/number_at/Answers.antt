@@ -1,4 +1,3 @@
-use borrow.Author.Rules.{rules}
 use Rattle.text_numbers.specs.Bases.{number_digits}
 use Rattle.text_numbers.proofs.number_at.Goals as goal
 

@@ -1,8 +1,7 @@
 use Prim.Native.Nat.{ℕ, ◌+◌, ◌-◌, ◌*◌}
 use mathlib.Core.Path.{ap}
 use native.Mathlib.Omega.{arith}
-use borrow.Author.Rules.{rules}
-use Rattle.text_laws.specs.NumberLaws.{Valued, valued_none, valued_all, valued_more, valued_large, valued_fits}
+use Rattle.text_laws.specs.NumberLaws.{valued_none, valued_all, valued_more, valued_large, valued_fits}
 use Rattle.text_numbers.proofs.value_of.Goals as goal
 
 pub loop-i-init : goal.loop-i-init

@@ -1,8 +1,5 @@
-use Prim.Native.Nat.{ℕ, ◌+◌, ◌-◌, ◌*◌}
-use mathlib.Core.Path.{ap}
-use native.Mathlib.Omega.{arith}
-use borrow.Author.Rules.{rules}
-use Rattle.text_laws.specs.NumberLaws.{Valued, valued_none, valued_all, valued_more, valued_large, valued_fits}
+use Prim.Native.Nat.{◌-◌}
+use Rattle.text_laws.specs.NumberLaws.{Valued}
 use Rattle.text_numbers.proofs.value_of.Given as goal
 
 abbrev pub invariant-loop-i : goal.invariant-loop-i

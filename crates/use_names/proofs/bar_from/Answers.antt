@@ -1,9 +1,7 @@
 -- `use_names::bar_from` meets its contract. The loop's invariant: no bar stands before i.
 -- Assumes nothing.
-use Prim.Native.Nat.{◌-◌, ◌≤◌}
+use Prim.Native.Nat.{◌-◌}
 use native.Mathlib.Omega.{arith}
-use lib.ListN.{length}
-use Rattle.text_laws.specs.HeadingLaws.{NoBar}
 use Rattle.use_names.proofs.NameLaws.{no_bar_more}
 use Rattle.use_names.proofs.bar_from.Goals as goal
 

@@ -1,11 +1,9 @@
 -- `use_names::enter_all` meets its contract. The loop's invariant: the descriptions from d on are entered.
 -- Assumes nothing.
-use mathlib.Core.Path.{◌≡◌, refl, ◌∙◌}
+use mathlib.Core.Path.{◌≡◌}
 use Prim.Native.Nat.{◌-◌, ◌≤◌}
-use native.Mathlib.Omega.{arith}
 use lib.ListN.{length}
 use Rattle.use_names.specs.Hashed.{Firsts}
-use Rattle.use_names.proofs.HashLaws.{firsts_none, firsts_more, firsts_all}
 use Rattle.use_names.proofs.enter_all.Given as goal
 
 abbrev pub invariant-loop-d : goal.invariant-loop-d

@@ -3,8 +3,7 @@
 use Rattle.use_names.proofs.enter_names.Goals.{then-names-i-eq124, else-names-i-eq124}
 use Prim.Native.Nat.{◌-◌}
 use native.Mathlib.Omega.{arith}
-use lib.ListN.{length}
-use Rattle.use_names.proofs.HashLaws.{Entering, entering_none, entering_bar, entering_byte, entering_all}
+use Rattle.use_names.proofs.HashLaws.{entering_none, entering_bar, entering_byte, entering_all}
 use Rattle.use_names.proofs.enter_names.Goals as goal
 
 pub loop-i-init : goal.loop-i-init

@@ -1,10 +1,8 @@
 -- `use_names::enter_names` meets its contract. The loop's invariant: the names before i are entered.
 -- Assumes nothing.
-use mathlib.Core.Logic.{⊎_elim}
 use Prim.Native.Nat.{◌-◌}
-use native.Mathlib.Omega.{arith}
 use lib.ListN.{length}
-use Rattle.use_names.proofs.HashLaws.{Entering, entering_none, entering_bar, entering_byte, entering_all}
+use Rattle.use_names.proofs.HashLaws.{Entering}
 use Rattle.use_names.proofs.enter_names.Given as goal
 
 abbrev pub invariant-loop-i : goal.invariant-loop-i

@@ -1,7 +1,6 @@
 -- `use_names::find` meets its contract.
 -- Assumes nothing.
 use native.Mathlib.Omega.{arith}
-use borrow.Author.Rules.{rules}
 use Rattle.use_names.proofs.HavingLaws.{found_having}
 use Rattle.use_names.proofs.find.Goals as goal
 

@@ -3,8 +3,6 @@
 use mathlib.Core.Path.{sym, ◌∙◌}
 use Prim.Native.Nat.{◌-◌}
 use native.Mathlib.Omega.{arith}
-use borrow.Author.Rules.{rules}
-use Rattle.use_names.specs.Searched.{NoneFrom}
 use Rattle.use_names.proofs.HavingLaws.{none_more}
 use Rattle.use_names.proofs.find_from.Goals as goal
 

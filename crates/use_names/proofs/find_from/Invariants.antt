@@ -1,11 +1,7 @@
 -- `use_names::find_from` meets its contract. The loop's invariant: no description before d has the name.
 -- Assumes nothing.
-use mathlib.Core.Path.{sym, ◌∙◌}
 use Prim.Native.Nat.{◌-◌}
-use native.Mathlib.Omega.{arith}
-use borrow.Author.Rules.{rules}
 use Rattle.use_names.specs.Searched.{NoneFrom}
-use Rattle.use_names.proofs.HavingLaws.{none_more}
 use Rattle.use_names.proofs.find_from.Given as goal
 
 abbrev pub invariant-loop-d : goal.invariant-loop-d

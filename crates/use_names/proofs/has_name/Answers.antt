@@ -4,9 +4,7 @@
 use mathlib.Core.Path.{sym, ◌∙◌}
 use Prim.Native.Nat.{◌-◌}
 use native.Mathlib.Omega.{arith}
-use lib.ListN.{length}
-use borrow.Author.Rules.{rules}
-use Rattle.use_names.proofs.NameLaws.{NamesFrom, names_all, names_last, names_hit, names_pass}
+use Rattle.use_names.proofs.NameLaws.{names_all, names_last, names_hit, names_pass}
 use Rattle.use_names.proofs.has_name.Goals as goal
 
 pub loop-at-init : goal.loop-at-init

@@ -1,12 +1,9 @@
 -- `use_names::has_name` meets its contract. The loop's invariant: the name is one of those from at on if it is one of
 -- all.
 -- Assumes nothing.
-use mathlib.Core.Path.{sym, ◌∙◌}
 use Prim.Native.Nat.{◌-◌}
-use native.Mathlib.Omega.{arith}
 use lib.ListN.{length}
-use borrow.Author.Rules.{rules}
-use Rattle.use_names.proofs.NameLaws.{NamesFrom, names_all, names_last, names_hit, names_pass}
+use Rattle.use_names.proofs.NameLaws.{NamesFrom}
 use Rattle.use_names.proofs.has_name.Given as goal
 
 abbrev pub invariant-loop-at : goal.invariant-loop-at

@@ -3,8 +3,7 @@
 use mathlib.Core.Path.{refl}
 use Prim.Native.Nat.{◌-◌}
 use native.Mathlib.Omega.{arith}
-use lib.ListN.{length}
-use Rattle.use_names.proofs.HashLaws.{Hashing, hash_more_lem, hash_all}
+use Rattle.use_names.proofs.HashLaws.{hash_more_lem, hash_all}
 use Rattle.use_names.proofs.hash_of.Goals as goal
 
 pub loop-i-init : goal.loop-i-init

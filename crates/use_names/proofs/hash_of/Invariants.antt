@@ -1,10 +1,8 @@
 -- `use_names::hash_of` meets its contract. The loop's invariant: the bytes before i are hashed.
 -- Assumes nothing.
-use mathlib.Core.Path.{refl}
 use Prim.Native.Nat.{◌-◌}
-use native.Mathlib.Omega.{arith}
 use lib.ListN.{length}
-use Rattle.use_names.proofs.HashLaws.{Hashing, hash_more_lem, hash_all}
+use Rattle.use_names.proofs.HashLaws.{Hashing}
 use Rattle.use_names.proofs.hash_of.Given as goal
 
 abbrev pub invariant-loop-i : goal.invariant-loop-i

@@ -1,12 +1,8 @@
 -- `use_names::is_same` meets its contract. The loop's invariant: the bytes before i are the same.
 -- Assumes nothing.
-use mathlib.Core.Path.{◌≡◌, ap}
-use mathlib.Core.List.{List}
+use mathlib.Core.Path.{◌≡◌}
 use Prim.Native.Nat.{ℕ, ◌-◌, ◌≤◌, ◌<◌}
-use native.Mathlib.Omega.{arith}
 use lib.ListN.{length, get_or}
-use borrow.Author.Count.{below_none, below_more}
-use Rattle.use_names.proofs.NameLaws.{same_all, differs}
 use Rattle.use_names.proofs.is_same.Given as goal
 
 abbrev pub invariant-loop-i : goal.invariant-loop-i

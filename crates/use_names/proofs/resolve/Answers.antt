@@ -1,14 +1,9 @@
 -- `use_names::resolve` meets its contract. The loop's invariant: the first i uses lead where the targets say.
 -- Assumes nothing.
-use mathlib.Core.Path.{◌≡◌, refl, sym}
-use mathlib.Core.List.{List}
-use Prim.Native.Nat.{◌-◌, ◌≤◌}
+use mathlib.Core.Path.{refl, sym}
+use Prim.Native.Nat.{◌-◌}
 use native.Mathlib.Omega.{arith}
-use lib.ListN.{length, length-set}
-use borrow.Author.Rules.{rules}
-use Rattle.edition.specs.declared.Edition.{Edition}
-use Rattle.text.specs.Describing.{Description}
-use Rattle.compile_laws.specs.Listed.{Listed, Targets}
+use lib.ListN.{length-set}
 use Rattle.use_names.proofs.UseLaws.{targets_more}
 use Rattle.use_names.proofs.resolve.Goals as goal
 

@@ -5,7 +5,6 @@ use mathlib.Core.List.{List}
 use Prim.Native.Nat.{ℕ}
 use native.Mathlib.Omega.{arith}
 use lib.Seq.{length-take-le}
-use borrow.Author.Rules.{rules}
 use Rattle.text.specs.Strings.{read_at, read_bytes}
 use Rattle.text.specs.Building.{having}
 use Rattle.compile_laws.specs.Listed.{target_of}

@@ -3,7 +3,6 @@
 use mathlib.Core.Path.{sym, ap, ◌∙◌}
 use native.Mathlib.Omega.{arith}
 use lib.ListN.{get_or}
-use borrow.Author.Rules.{rules}
 use Rattle.compile_laws.specs.Listed.{target_of}
 use Rattle.use_names.specs.Having.{says_named}
 use Rattle.use_names.proofs.HavingLaws.{found_below, found_having}

@@ -1,10 +1,7 @@
 -- `use_turns::advance` meets its contract: from the first frames the walk goes on from those of each turn.
 -- Assumes nothing.
 use native.Mathlib.Omega.{arith}
-use borrow.Author.Rules.{rules}
-use Rattle.use_turns.specs.Frames.{use_arrays, frames}
-use Rattle.use_turns.specs.Weight.{weight_at}
-use Rattle.use_turns.proofs.AdvanceLaws.{bounds, known_below, Along, along_start}
+use Rattle.use_turns.proofs.AdvanceLaws.{bounds, known_below, along_start}
 use Rattle.use_turns.proofs.AdvanceLaws.{along_finished, falls_finished, along_passed, falls_passed}
 use Rattle.use_turns.proofs.AdvanceLaws.{along_entered, along_refused, along_done}
 use Rattle.use_turns.proofs.advance.Goals as goal

@@ -1,15 +1,12 @@
 -- `use_turns::height_of` meets its contract: the height is that of the uses read, with those that are left.
 -- Assumes nothing.
 use mathlib.Core.Path.{◌≡◌, sym, ap, ◌∙◌}
-use mathlib.Core.List.{List}
 use Rattle.use_turns.proofs.height_of.Goals.{then-h-x, else-h-x}
-use Prim.Native.Nat.{ℕ, max, suc, ◌≤◌, ◌-◌}
+use Prim.Native.Nat.{ℕ, max, suc, ◌-◌}
 use native.Mathlib.Omega.{arith}
 use lib.ListN.{get_or}
-use borrow.Author.Rules.{rules}
-use Rattle.uses.specs.Heights.{height_of, low}
-use Rattle.use_turns.specs.Frames.{uses_from, heights_of}
-use Rattle.use_turns.proofs.ReadLaws.{joined, height_start, height_missing, height_unfinished}
+use Rattle.uses.specs.Heights.{low}
+use Rattle.use_turns.proofs.ReadLaws.{height_start, height_missing, height_unfinished}
 use Rattle.use_turns.proofs.ReadLaws.{height_more, height_end}
 use Rattle.use_turns.proofs.height_of.Goals as goal
 

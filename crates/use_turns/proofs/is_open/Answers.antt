@@ -1,11 +1,8 @@
 -- `use_turns::is_open` meets its contract: the description is one of those open, or of those that are left.
 -- Assumes nothing.
-use mathlib.Core.Path.{◌≡◌, refl, sym, ◌∙◌}
-use Prim.Native.Nat.{◌≤◌}
+use mathlib.Core.Path.{refl, sym, ◌∙◌}
 use native.Mathlib.Omega.{arith}
 use borrow.Author.Rules.{rules}
-use Rattle.uses.specs.Walk.{is_in}
-use Rattle.use_turns.specs.Frames.{open_of}
 use Rattle.use_turns.proofs.ReadLaws.{open_hit, open_miss, open_end}
 use Rattle.use_turns.proofs.is_open.Goals as goal
 

@@ -2,7 +2,6 @@
 -- Assumes nothing.
 use mathlib.Core.Path.{sym, ◌∙◌}
 use native.Mathlib.Omega.{arith}
-use borrow.Author.Rules.{rules}
 use Rattle.use_turns.proofs.AdvanceLaws.{bounds, target_below, judged_missing, judged_open}
 use Rattle.use_turns.proofs.AdvanceLaws.{judged-ninth, judged-pass, judged-enter}
 use Rattle.use_turns.proofs.next_use.Goals as goal

@@ -1,6 +1,5 @@
 -- `use_walk::put_own` meets its contract.
 -- Assumes nothing.
-use borrow.Author.Rules.{rules}
 use Rattle.use_walk.proofs.WalkLaws.{put_own_lem}
 use Rattle.use_walk.proofs.put_own.Goals as goal
 

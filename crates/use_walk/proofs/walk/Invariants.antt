@@ -1,15 +1,12 @@
 -- `use_walk::walk` meets its contract. The loop's invariant: the walk has come to a description that is open and whose
 -- own states are put next.
 -- Assumes nothing.
-use mathlib.Core.Path.{◌≡◌, refl, ◌∙◌}
-use native.Mathlib.Omega.{arith}
+use mathlib.Core.Path.{◌≡◌}
 use lib.ListN.{length}
-use borrow.Author.Rules.{rules}
 use Rattle.entry.specs.Handed.{handed}
 use Rattle.use_turns.specs.Frames.{use_arrays, frames}
 use Rattle.use_turns.specs.Weight.{weight_at}
-use Rattle.use_walk.proofs.GraphLaws.{holds_uses}
-use Rattle.use_walk.proofs.WalkLaws.{Walking, walking_start, walking_entered, walking_done, walking_refused}
+use Rattle.use_walk.proofs.WalkLaws.{Walking}
 use Rattle.use_walk.proofs.walk.Given as goal
 
 abbrev pub invariant-loop-t : goal.invariant-loop-t

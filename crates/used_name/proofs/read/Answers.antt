@@ -1,13 +1,11 @@
 -- `used_name::read` meets its contract.
 -- Assumes nothing.
-use mathlib.Core.Path.{◌≡◌, refl, sym, ◌∙◌, subst}
-use Prim.Native.Nat.{◌-◌, ◌≤◌, zero-le}
+use mathlib.Core.Path.{refl, sym, ◌∙◌, subst}
+use Prim.Native.Nat.{◌-◌, zero-le}
 use native.Mathlib.Omega.{arith}
-use lib.ListN.{length, length-set}
-use borrow.Author.Rules.{rules}
-use Rattle.text.specs.Heading.{alias_most}
+use lib.ListN.{length-set}
 use Rattle.text_laws.specs.Reads.{Forward, item_forward, item_past}
-use Rattle.used_name.proofs.NameLaws.{ReadTo, read_start, name_ends, name_malformed, name_removed, name_byte, name_longer}
+use Rattle.used_name.proofs.NameLaws.{read_start, name_ends, name_malformed, name_removed, name_byte, name_longer}
 use Rattle.used_name.proofs.read.Goals as goal
 
 pub loop-i-init : goal.loop-i-init

@@ -1,13 +1,10 @@
 -- `used_name::read` meets its contract.
 -- Assumes nothing.
-use mathlib.Core.Path.{◌≡◌, refl, sym, ◌∙◌, subst}
-use Prim.Native.Nat.{◌-◌, ◌≤◌, zero-le}
-use native.Mathlib.Omega.{arith}
-use lib.ListN.{length, length-set}
-use borrow.Author.Rules.{rules}
+use mathlib.Core.Path.{◌≡◌}
+use Prim.Native.Nat.{◌-◌, ◌≤◌}
+use lib.ListN.{length}
 use Rattle.text.specs.Heading.{alias_most}
-use Rattle.text_laws.specs.Reads.{Forward, item_forward, item_past}
-use Rattle.used_name.proofs.NameLaws.{ReadTo, read_start, name_ends, name_malformed, name_removed, name_byte, name_longer}
+use Rattle.used_name.proofs.NameLaws.{ReadTo}
 use Rattle.used_name.proofs.read.Given as goal
 
 abbrev pub invariant-loop-i : goal.invariant-loop-i

@@ -1,7 +1,6 @@
 -- `variables::load` meets its contract: capital letters are the lasting variables.
 -- Assumes nothing.
 use mathlib.Core.Path.{◌∙◌}
-use borrow.Author.Rules.{rules}
 use borrow.Author.Tests.{le-leb, lt-leb}
 use Rattle.signed.proofs.Laws.{again}
 use Rattle.expansion.specs.Machine.{loaded}

@@ -2,7 +2,6 @@
 -- Assumes nothing.
 use mathlib.Core.Path.{sym}
 use lib.Seq.{set_out}
-use borrow.Author.Rules.{rules}
 use Rattle.variables.proofs.set_value.Goals as goal
 
 pub returns-else-k-values : goal.returns-else-k-values

@@ -1,7 +1,6 @@
 -- `variables::store` meets its contract: capital letters are the lasting variables.
 -- Assumes nothing.
 use mir.Facts.{to_z-of_z}
-use borrow.Author.Rules.{rules}
 use borrow.Author.Tests.{le-leb, lt-leb}
 use Rattle.expansion.specs.Machine.{stored}
 use Rattle.variables.proofs.store.Goals as goal

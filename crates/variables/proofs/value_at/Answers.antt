@@ -3,7 +3,6 @@
 use mathlib.Core.Path.{sym}
 use lib.IntN.{pos}
 use lib.ListN.{get_or-eq_default}
-use borrow.Author.Rules.{rules}
 use Rattle.variables.proofs.value_at.Goals as goal
 
 pub returns-else-k-values : goal.returns-else-k-values

@@ -2,7 +2,6 @@
 -- Assumes nothing.
 use mathlib.Core.Path.{refl}
 use native.Mathlib.Omega.{arith}
-use borrow.Author.Rules.{rules}
 use Rattle.base.proofs.IfLaws.{true_false}
 use Rattle.walk_fields.proofs.WalkLaws.{walked_alone, walked_used, walked_header, walked_refused}
 use Rattle.walk_fields.proofs.walk.Goals as goal

@@ -1,10 +1,9 @@
 -- `word::find_nul` meets its contract. The invariant: the first NUL from a on is the first from i on.
 use Prim.Native.Nat.{◌-◌}
-use mathlib.Core.Path.{◌≡◌, refl, sym, ◌∙◌}
+use mathlib.Core.Path.{sym, ◌∙◌}
 use borrow.Author.Tests.{ne_eqb}
-use borrow.Author.Rules.{rules}
 use Rattle.base.proofs.ScanLaws.{scan_step, scan_hit, scan_end}
-use Rattle.word.specs.Nul.{nul_from, not_nul_at}
+use Rattle.word.specs.Nul.{not_nul_at}
 use Rattle.word.proofs.find_nul.Goals as goal
 
 pub returns-then-f-i-eq0 : goal.returns-then-f-i-eq0

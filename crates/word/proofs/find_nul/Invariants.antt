@@ -1,10 +1,7 @@
 -- `word::find_nul` meets its contract. The invariant: the first NUL from a on is the first from i on.
 use Prim.Native.Nat.{◌-◌}
-use mathlib.Core.Path.{◌≡◌, refl, sym, ◌∙◌}
-use borrow.Author.Tests.{ne_eqb}
-use borrow.Author.Rules.{rules}
-use Rattle.base.proofs.ScanLaws.{scan_step, scan_hit, scan_end}
-use Rattle.word.specs.Nul.{nul_from, not_nul_at}
+use mathlib.Core.Path.{◌≡◌}
+use Rattle.word.specs.Nul.{nul_from}
 use Rattle.word.proofs.find_nul.Given as goal
 
 abbrev pub invariant-loop-i : goal.invariant-loop-i

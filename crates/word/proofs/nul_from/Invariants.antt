@@ -1,13 +1,9 @@
 -- `word::nul_from` meets its contract. The invariant: the first NUL from a on is the first from i on, so that i is below
 -- the length.
-use Prim.Native.Nat.{ℕ, ◌-◌, ◌<◌}
-use mathlib.Core.Path.{◌≡◌, refl, sym, ◌∙◌}
-use mathlib.Core.List.{List}
-use native.Mathlib.Omega.{arith}
+use Prim.Native.Nat.{◌-◌}
+use mathlib.Core.Path.{◌≡◌}
 use lib.ListN.{length}
-use borrow.Author.Tests.{ne_eqb, eq-eqb}
-use Rattle.base.proofs.ScanLaws.{scan_ge, scan_step, scan_hit}
-use Rattle.word.specs.Nul.{nul_from, not_nul_at}
+use Rattle.word.specs.Nul.{nul_from}
 use Rattle.word.proofs.nul_from.Given as goal
 
 abbrev pub invariant-loop-i : goal.invariant-loop-i

@@ -1,7 +1,6 @@
 use Prim.Native.Nat.{◌+◌}
 use native.Mathlib.Omega.{arith}
 use Rattle.word.proofs.WordLaws.{short_eq}
-use borrow.Author.Rules.{rules}
 use Rattle.word.proofs.short_at.Goals as goal
 
 pub overflow_cast-low : goal.overflow_cast-low

@@ -2,8 +2,7 @@
 -- Assumes nothing.
 use mathlib.Core.Path.{◌≡◌, sym, ◌∙◌}
 use mathlib.Core.Bool.{true}
-use borrow.Author.Rules.{rules}
-use borrow.Author.Tests.{eq-eqb, ne_eqb, not-true, not-false}
+use borrow.Author.Tests.{eq-eqb, ne_eqb}
 use Rattle.entry.specs.Writing.{enough_states, names_fit, is_lent}
 use Rattle.write_laws.proofs.AnswerLaws.{enough, refuse_3, refuse_4, refuse_7}
 use Rattle.entry.specs.Handed.{handed}

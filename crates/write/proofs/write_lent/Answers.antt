@@ -6,8 +6,6 @@ use mathlib.Core.List.{List, append-nil}
 use Prim.Native.Nat.{ℕ}
 use native.Mathlib.Omega.{arith}
 use lib.ListN.{length}
-use borrow.Author.Rules.{rules}
-use borrow.Author.Tests.{not-true, not-false}
 use Rattle.base.specs.Overwrite.{put_at}
 use Rattle.entry.specs.Layout.{size_of}
 use Rattle.entry.specs.Writing.{encode, entry_of, enough_states, is_lent, boolean_fits_at, number_fits_at, string_fits_at, states_fit}

@@ -1,13 +1,10 @@
 -- `judge::find_not_lent` meets its contract. The loop's invariant: the scan from the first place is the scan from i on.
 -- Assumes nothing.
-use mathlib.Core.Path.{◌≡◌, sym, ◌∙◌}
+use mathlib.Core.Path.{◌≡◌}
 use mathlib.Core.Bool.{Bool}
 use mathlib.Core.List.{List}
 use Prim.Native.Nat.{ℕ, ◌-◌, ◌≤◌}
-use borrow.Author.Rules.{rules}
-use borrow.Author.Tests.{not-true, not-false}
 use Rattle.base.specs.Scan.{scan}
-use Rattle.base.proofs.ScanLaws.{scan_step, scan_hit, scan_end, scan_start}
 use Rattle.entry.specs.Writing.{is_lent}
 use Rattle.entry.specs.Handed.{strings_handed}
 use Rattle.write_limits.proofs.find_not_lent.Given as goal

@@ -1,0 +1,30 @@
+-- `descriptions::read` meets its contract.
+-- Assumes nothing.
+use mathlib.Core.Path.{sym, ◌∙◌}
+use Rattle.descriptions.proofs.ReadLaws.{begun_end, begun_indented}
+use Rattle.descriptions.proofs.read.Goals as goal
+
+pub read_from-requires : goal.read_from-requires
+read_from-requires c =
+    (sym c.line_at.ensures ∙ c.in-Column.is, record { short = c.requires.0; many_heads = c.requires.1.0; many_commas = c.requires.1.1.0; many_starts = c.requires.1.1.1.0; many_places = c.requires.1.1.1.1.0; unset = c.requires.1.1.1.1.1 })
+
+pub returns-in-End : goal.returns-in-End
+returns-in-End c = begun_end _ _ (sym c.line_at.ensures ∙ c.in-End.is)
+
+pub shape_of-heads : goal.shape_of-heads
+shape_of-heads c = c.read_from.auto.heads
+
+pub shape_of-commas : goal.shape_of-commas
+shape_of-commas c = c.read_from.auto.commas
+
+pub shape_of-starts : goal.shape_of-starts
+shape_of-starts c = c.read_from.auto.starts
+
+pub shape_of-places : goal.shape_of-places
+shape_of-places c = c.read_from.auto.places
+
+pub returns-in-Column : goal.returns-in-Column
+returns-in-Column c = c.read_from.ensures
+
+pub returns-in-Indented : goal.returns-in-Indented
+returns-in-Indented c = begun_indented _ _ (sym c.line_at.ensures ∙ c.in-Indented.is)
