@@ -58,23 +58,11 @@
  *
  * In a merge's refusal of a file, 1 to 7, bits 48 to 55 give which file it was: 1 or 2.
  *
- * A refused call changes nothing that was lent to it. While terminfo_expand or terminfo_expand_texts
- * runs, it may change the variables and the buffer's bytes from at on; where it is refused, what it
- * changed is put back before it returns.
+ * A refused call changes nothing that was lent to it.
  *
  * The caller lends all memory and the calls keep none of it. Every pointer is aligned for its type
- * and not null, also where its length is 0; its length counts elements, all of which can be read, and
- * which no other thread writes while the call runs. What a call may write, which is all that is not
- * const, can be written whatever the call will answer, overlaps no other argument, and is the call's
- * alone while it runs: no other thread reads or writes it. There is no other condition on any
- * argument. Where what is written overlaps what is read, nothing is promised: a merge into the memory
- * of one of its files can write a wrong file, and an expansion into that of its string can read past
- * the string, which is not tested for its end again once it has been checked.
- *
- * The calls are thread-safe: they keep no state, so that calls which are lent different memory to
- * write may run at the same time; what they only read they may share.
- *
- * The header needs C99 or later, or C++.
+ * and not null, also where its length is 0; its length counts elements, all of which can be read;
+ * what a call may write overlaps no other argument. There is no other condition on any argument.
  *
  * No call uses the heap or keeps anything from one call to the next. What each says of its stack is
  * counted in the disassembly of the library on x86-64 (bench/stack.py): frames, return addresses and

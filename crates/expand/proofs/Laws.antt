@@ -40,15 +40,15 @@ module _ (room : ℕ) (s : List ℕ) (arguments : List Argument) (lent : List �
           rw (le-leb at (length b) h, t, lt-leb (length s) string_most l) (record { answer = refl; lasting = refl; output = refl; within = tt })
 
       module _ (l : length s ≤ string_most) where
-        pub long-refused : each_passes is_short arguments ≡ false → Answers v b E.Length
+        pub long_refused : each_passes is_short arguments ≡ false → Answers v b E.Length
         unfolding expanding
-        long-refused e =
+        long_refused e =
             rw (le-leb at (length b) h, t, le-leb (length s) string_most l, e) (record { answer = refl; lasting = refl; output = refl; within = tt })
 
-        pub run-answers : each_passes is_short arguments ≡ true → {v' : List ℤ} {b' : List ℕ} {r : Expansion}
+        pub run_answers : each_passes is_short arguments ≡ true → {v' : List ℤ} {b' : List ℕ} {r : Expansion}
             → LentAs (length s) room (formed (form_of s) (ended (run s (values_of lent arguments) v) (length b - at))) v v' b at b' r → Answers v' b' r
         unfolding expanding
-        run-answers e a = rw (le-leb at (length b) h, t, le-leb (length s) string_most l, e) a
+        run_answers e a = rw (le-leb at (length b) h, t, le-leb (length s) string_most l, e) a
 
 -- where no text has a byte, there is no room for one
 pub no_texts : (s : List ℕ) → room_with 0 s ≡ room_for (length s)

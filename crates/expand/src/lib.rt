@@ -1,6 +1,8 @@
 // The expansion of parameterized strings (document 01: Expansion; document 02, 2026-07). Proved: each call gives what
 // `expanding` of expansion/specs says of its string, arguments and variables, for every buffer and place. Assumed:
 // nothing.
+#![tactic(auto)]
+
 ghost use Rattle.std.specs.Prelude.{[], ℕ, ◌-◌, ◌≤◌, length};
 ghost use Rattle.expansion.specs.Limits.{string_most, room_for};
 ghost use Rattle.expansion.specs.Form.{form_of};

@@ -1,5 +1,7 @@
 // The output of a run, put where it fits (document 01: Expansion). Proved: `expand_into` answers and leaves what
 // `formed` and `ended` of expansion/specs say. Assumed: nothing.
+#![tactic(auto)]
+
 ghost use Rattle.std.specs.Prelude.{◌≡◌, ℕ, ◌≤◌, length, take};
 ghost use Rattle.base.specs.Overwrite.{put_at};
 ghost use Rattle.expansion.specs.Limits.{string_most};

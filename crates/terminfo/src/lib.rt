@@ -1,6 +1,8 @@
 // The calls for a Rattle program: an entry that keeps hold of its file, and expansion with lasting variables that are
 // lent (document 01: Compiled entry; Expansion). Each call over such a struct passes its slice and numbers on to
 // `entry_numbers`. Proved: each answers every value as the definition that its contract names. Assumed: nothing.
+#![tactic(auto)]
+
 ghost use Rattle.std.specs.Prelude.{◌≡◌, [], length};
 ghost use Rattle.entry.specs.Asking.{asking_string};
 ghost use Rattle.entry.specs.Says.{says_names, says_boolean, says_number, says_string};

@@ -1,8 +1,8 @@
 //! The calls of include/terminfo_c.h that this crate uses, and the parts of their answers.
 //!
 //! What the header asks of every argument holds of what Rust lends: a slice's pointer is aligned and
-//! not null, also where it is empty, its elements can be read and no thread writes them meanwhile, and
-//! what is lent by `&mut` can be written, overlaps nothing else and is the call's alone.
+//! not null, also where it is empty, its elements can be read, and what is lent by `&mut` overlaps
+//! nothing else.
 
 use crate::Refusal;
 

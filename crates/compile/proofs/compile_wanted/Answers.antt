@@ -7,7 +7,6 @@ use Rattle.text.specs.Compiling.{fitted}
 use Rattle.wanted.specs.Wanted.{wanted_by}
 use Rattle.compile_alone.specs.Tries.{Tries}
 use Rattle.compile.proofs.Laws.{edition_large, text_long, text_comes, several_comes}
-use borrow.Author.Rules.{rules}
 use Rattle.compile.proofs.compile_wanted.Goals as goal
 
 pub returns-then-is_large : goal.returns-then-is_large

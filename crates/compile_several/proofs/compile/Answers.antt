@@ -8,7 +8,6 @@ use Rattle.descriptions.specs.Reads.{TextReads}
 use Rattle.wanted.specs.Wanted.{wanted_by}
 use Rattle.compile_laws.proofs.ClearedLaws.{zero_at}
 use Rattle.compile_several.proofs.Built.{text_bad, uses_few}
-use borrow.Author.Rules.{rules}
 use Rattle.compile_several.proofs.compile.Goals as goal
 
 pub read-requires : goal.read-requires

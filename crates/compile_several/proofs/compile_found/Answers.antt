@@ -13,7 +13,6 @@ use Rattle.use_names.specs.Having.{says_named}
 use Rattle.wanted.specs.Wanted.{wanted_by}
 use Rattle.compile_several.proofs.Built.{total_bad, wanted_bad, wanted_comes, uses_few, found_below, found_fits}
 use Rattle.compile_several.proofs.Built.{found_arrays}
-use borrow.Author.Rules.{rules}
 use Rattle.compile_several.proofs.compile_found.Goals as goal
 
 pub totals-requires : goal.totals-requires

@@ -5,7 +5,6 @@ use native.Mathlib.Omega.{arith}
 use Rattle.text_laws.specs.HeadingLaws.{header_right}
 use Rattle.compile_laws.proofs.ClearedLaws.{cleared_holds, holds_named}
 use Rattle.compile_several.proofs.Built.{walk_done, walk_bad}
-use borrow.Author.Rules.{rules}
 use Rattle.compile_several.proofs.compile_used.Goals as goal
 
 pub walk-requires : goal.walk-requires

@@ -1,5 +1,5 @@
 use native.Mathlib.Omega.{arith}
-use Prim.Native.Nat.{◌-◌, zero-le}
+use Prim.Native.Nat.{zero-le}
 use mathlib.Core.Path.{refl, sym, ◌∙◌, subst}
 use mathlib.Core.List.{[]}
 use Rattle.text_laws.specs.Reads.{Forward, item_forward, item_past, scanned_byte, scanned_removed, scanned_end, scanned_malformed}

@@ -1,5 +1,4 @@
 use native.Mathlib.Omega.{arith}
-use Prim.Native.Nat.{◌-◌}
 use mathlib.Core.Path.{sym, ◌∙◌, subst}
 use Rattle.text_laws.specs.Reads.{Forward, item_forward}
 use Rattle.contents.proofs.Putting.{filled_start, filled_length, filled_within, filled_room, filled_before, filled_malformed, filled_all, filled_removed, filled_byte, filled_itself}

@@ -1,7 +1,6 @@
 -- `descriptions::read_from` meets its contract. The loop's invariant: the arrays hold the descriptions read.
 -- Assumes nothing.
 use mathlib.Core.Path.{refl, ◌∙◌}
-use Prim.Native.Nat.{◌-◌}
 use native.Mathlib.Omega.{arith}
 use Rattle.descriptions.proofs.ReadLaws.{read_start, read_full, read_fewer, read_lists, read_refused, read-last, read_more}
 use Rattle.descriptions.proofs.read_from.Goals as goal

@@ -1,6 +1,5 @@
 -- `descriptions::totals` meets its contract. The loop's invariant: the totals of the descriptions passed fit.
 -- Assumes nothing.
-use Prim.Native.Nat.{◌-◌}
 use native.Mathlib.Omega.{arith}
 use borrow.Author.Rules.{rules}
 use Rattle.descriptions.proofs.ReadLaws.{head_first, head_later}

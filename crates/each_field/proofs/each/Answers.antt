@@ -2,7 +2,6 @@
 -- of the uses among them.
 -- Assumes nothing.
 use mathlib.Core.Path.{refl, sym, ◌∙◌, subst}
-use Prim.Native.Nat.{◌-◌}
 use native.Mathlib.Omega.{arith}
 use Rattle.judge.specs.Judged.{JudgedIn}
 use Rattle.each_field.proofs.WalkLaws.{walk_start, walk_end, walk_column, walk_refused, walk_go}

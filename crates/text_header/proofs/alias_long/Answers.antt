@@ -1,4 +1,3 @@
-use Prim.Native.Nat.{◌-◌}
 use Rattle.text_header.proofs.alias_long.Goals.{then-names-i-eq124+else-i-start-gt-ALIAS_MOST, else-names-i-eq124}
 use native.Mathlib.Omega.{arith}
 use Rattle.text_laws.specs.HeadingLaws.{passed_none, passed_more, passed_bar, passed_long, passed_all}

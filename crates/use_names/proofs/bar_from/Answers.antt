@@ -1,6 +1,5 @@
 -- `use_names::bar_from` meets its contract. The loop's invariant: no bar stands before i.
 -- Assumes nothing.
-use Prim.Native.Nat.{◌-◌}
 use native.Mathlib.Omega.{arith}
 use Rattle.use_names.proofs.NameLaws.{no_bar_more}
 use Rattle.use_names.proofs.bar_from.Goals as goal

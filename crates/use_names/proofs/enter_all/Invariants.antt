@@ -1,7 +1,7 @@
 -- `use_names::enter_all` meets its contract. The loop's invariant: the descriptions from d on are entered.
 -- Assumes nothing.
 use mathlib.Core.Path.{◌≡◌}
-use Prim.Native.Nat.{◌-◌, ◌≤◌}
+use Prim.Native.Nat.{◌≤◌}
 use lib.ListN.{length}
 use Rattle.use_names.specs.Hashed.{Firsts}
 use Rattle.use_names.proofs.enter_all.Given as goal

@@ -1,7 +1,6 @@
 -- `use_names::enter_names` meets its contract. The loop's invariant: the names before i are entered.
 -- Assumes nothing.
 use Rattle.use_names.proofs.enter_names.Goals.{then-names-i-eq124, else-names-i-eq124}
-use Prim.Native.Nat.{◌-◌}
 use native.Mathlib.Omega.{arith}
 use Rattle.use_names.proofs.HashLaws.{entering_none, entering_bar, entering_byte, entering_all}
 use Rattle.use_names.proofs.enter_names.Goals as goal

@@ -1,7 +1,6 @@
 -- `use_names::find_from` meets its contract. The loop's invariant: no description before d has the name.
 -- Assumes nothing.
 use mathlib.Core.Path.{sym, ◌∙◌}
-use Prim.Native.Nat.{◌-◌}
 use native.Mathlib.Omega.{arith}
 use Rattle.use_names.proofs.HavingLaws.{none_more}
 use Rattle.use_names.proofs.find_from.Goals as goal

@@ -2,7 +2,6 @@
 -- all.
 -- Assumes nothing.
 use mathlib.Core.Path.{sym, ◌∙◌}
-use Prim.Native.Nat.{◌-◌}
 use native.Mathlib.Omega.{arith}
 use Rattle.use_names.proofs.NameLaws.{names_all, names_last, names_hit, names_pass}
 use Rattle.use_names.proofs.has_name.Goals as goal

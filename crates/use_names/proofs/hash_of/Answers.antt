@@ -1,7 +1,6 @@
 -- `use_names::hash_of` meets its contract. The loop's invariant: the bytes before i are hashed.
 -- Assumes nothing.
 use mathlib.Core.Path.{refl}
-use Prim.Native.Nat.{◌-◌}
 use native.Mathlib.Omega.{arith}
 use Rattle.use_names.proofs.HashLaws.{hash_more_lem, hash_all}
 use Rattle.use_names.proofs.hash_of.Goals as goal

@@ -1,7 +1,6 @@
 -- `use_names::resolve` meets its contract. The loop's invariant: the first i uses lead where the targets say.
 -- Assumes nothing.
 use mathlib.Core.Path.{refl, sym}
-use Prim.Native.Nat.{◌-◌}
 use native.Mathlib.Omega.{arith}
 use lib.ListN.{length-set}
 use Rattle.use_names.proofs.UseLaws.{targets_more}

@@ -2,7 +2,7 @@
 -- Assumes nothing.
 use mathlib.Core.Path.{◌≡◌, sym, ap, ◌∙◌}
 use Rattle.use_turns.proofs.height_of.Goals.{then-h-x, else-h-x}
-use Prim.Native.Nat.{ℕ, max, suc, ◌-◌}
+use Prim.Native.Nat.{ℕ, max, suc}
 use native.Mathlib.Omega.{arith}
 use lib.ListN.{get_or}
 use Rattle.uses.specs.Heights.{low}
