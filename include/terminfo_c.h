@@ -231,7 +231,7 @@ uint64_t terminfo_string(const uint8_t *file, size_t file_length, size_t boolean
  *
  * Success gives 0. Refusal 17: terminfo_open refuses the file.
  *
- * Uses at most 312 bytes of stack. */
+ * Uses at most 344 bytes of stack. */
 uint64_t terminfo_ask(const uint8_t *file, size_t file_length, size_t booleans, size_t numbers,
                       size_t strings, const uint8_t kinds[8], const size_t places[8],
                       uint64_t answers[8]);
@@ -255,7 +255,7 @@ uint64_t terminfo_ask(const uint8_t *file, size_t file_length, size_t booleans, 
  * 8 (an array is shorter than the edition counts, the booleans' first, then one of the numbers', then
  * one of the strings'; gives the count: terminfo_value).
  *
- * Uses at most 312 bytes of stack. */
+ * Uses at most 360 bytes of stack. */
 uint64_t terminfo_list(const uint8_t *file, size_t file_length, size_t booleans, size_t numbers,
                        size_t strings,
                        uint8_t *boolean_kinds, size_t boolean_kinds_length,
@@ -448,7 +448,7 @@ uint64_t terminfo_capability(uint8_t kind, size_t place);
  * (give the place of the item at which the expansion stops; of one item in this order), 8 (gives the
  * output's length: terminfo_value).
  *
- * Uses at most 1,208 bytes of stack. */
+ * Uses at most 1,784 bytes of stack. */
 uint64_t terminfo_expand(const uint8_t *string, size_t string_length, const int32_t arguments[9],
                          int32_t lasting[26], uint8_t *buffer, size_t buffer_length, size_t at);
 
@@ -502,7 +502,7 @@ uint64_t terminfo_expand(const uint8_t *string, size_t string_length, const int3
  * expansion stops; of one item in this order: too few values, a value of the other kind, no room on the
  * stack), 8 (gives the output's length: terminfo_value).
  *
- * Uses at most 1,432 bytes of stack. */
+ * Uses at most 1,512 bytes of stack. */
 uint64_t terminfo_expand_texts(const uint8_t *string, size_t string_length, const uint8_t kinds[9],
                                const int32_t numbers[9], const size_t starts[9],
                                const size_t lengths[9], const uint8_t *texts, size_t texts_length,

@@ -34,7 +34,7 @@ def promised():
 
 def named(crate, listed):
     """The crates that a crate's files name."""
-    names, of_std = set(), set()
+    names, called, of_std = set(), set(), set()
     for file in chain(*((CRATES / crate / part).rglob("*") for part in ("src", "specs", "proofs"))):
         if file.suffix not in (".rt", ".antt"):
             continue
@@ -42,10 +42,11 @@ def named(crate, listed):
         names.update(re.findall(r"Rattle\.(\w+)\.", text))
         if file.suffix == ".rt":
             code = "\n".join(line.split("//")[0] for line in text.split("\n"))
-            names.update(re.findall(r"(?<![\w:])([a-z_]\w*)::", code))
+            called.update(re.findall(r"(?<![\w:])([a-z_]\w*)::", code))
             of_std.update(*(re.findall(r"\w+", use) for use in re.findall(r"\buse std::([^;]*);", code)))
     own = {file.stem for file in (CRATES / crate / "src").rglob("*.rt")}
-    return {name for name in names if name in listed or name in KIT} - own - of_std - {crate, "std"}
+    names |= called - of_std  # `io::Error` behind `use std::io` names no crate
+    return {name for name in names if name in listed or name in KIT} - own - {crate, "std"}
 
 
 def main():

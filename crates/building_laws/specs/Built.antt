@@ -1,8 +1,8 @@
 -- The entry that a text's wanted description comes to: the parts of `building_text` where it gives one; its names are
 -- the wanted description's; its states and names have a written form.
 -- Assumes nothing.
-use Rattle.std.specs.Prelude.{◌≡◌, refl, Bool, true, false, leb, length, get_or}
-use Rattle.std.proofs.Common.{sym, ap, ◌∙◌, subst, arith, leb-true}
+use Rattle.std.specs.Prelude.{◌≡◌, refl, Bool, true, false, length, get_or}
+use Rattle.std.proofs.Common.{sym, ap, subst, arith}
 use mathlib.Core.List.{List, [], ◌∷◌}
 use Prim.Native.Nat.{ℕ, zero, suc, ◌+◌, ◌≤◌, ◌<◌}
 use Rattle.base.specs.If.{when◌then◌else◌}
@@ -18,18 +18,17 @@ use Rattle.entry.specs.Merging.{over}
 use Rattle.entry_laws.specs.Sound.{NumberFits, ContentFree}
 use Rattle.entry_laws.specs.Merge.{over_has}
 use Rattle.uses.specs.Walk.{Use, Graph, uses_most, bind, with_uses, brought, built}
-use Rattle.uses.specs.Related.{built_keeps}
-use Rattle.text.specs.Heading.{names_to}
-use Rattle.text.specs.Describing.{Fields, described, bare, Description, description, describing}
+use Rattle.uses.proofs.Related.{built_keeps}
+use Rattle.text.specs.Describing.{Fields, described, bare, Description, describing}
 use Rattle.text.specs.Building.{has_name, Having, nobody, numbered, having_from, having}
-use Rattle.text.specs.Building.{description_at, uses_of, over_in}
+use Rattle.text.specs.Building.{uses_of, over_in}
 use Rattle.text.specs.Building.{own_of, outcome, totals, Wanted, first, named, wanted_as, wanted_in, building}
 use Rattle.text.specs.Building.{building_text}
 use Rattle.text_laws.specs.JudgingLaws.{refused_gives, given_is}
-use Rattle.text_laws.specs.HeadingLaws.{names_free_lem, names_some, header_right}
-use Rattle.text_laws.specs.DescribingLaws.{Sound-states, fields_sound, bare_sound}
-use Rattle.building_laws.specs.Over.{over_edition, described_names}
-use Rattle.building_laws.specs.Descriptions.{StandsIn, describing_stand, describing_some}
+use Rattle.text_laws.specs.DescribingLaws.{Sound-states, bare_sound}
+use Rattle.text_laws.proofs.DescribingLaws.{fields_sound}
+use Rattle.building_laws.specs.Over.{over_edition}
+use Rattle.building_laws.specs.Descriptions.{StandsIn}
 
 -- ---- the parts
 
@@ -86,19 +85,6 @@ wanted_below ds (named n) d l q = by_having (having n ds) refl q
         let b = having_below n ds 0 m r in
         omega arith
 
-totals_each : (ds : List Description) → totals ds ≡ gives tt
-    → Each (λ (d : Description). length d.names ≤ given_names_most) ds
-unfolding totals
-totals_each [] q = tt
-totals_each (d ∷ ds) q = by_test (leb (length d.names) given_names_most) refl q (totals_each ds)
-  where
-    by_test : (b : Bool) → leb (length d.names) given_names_most ≡ b
-        → (when b then totals ds else refused 13 (d.place ∷ [])) ≡ gives tt
-        → (totals ds ≡ gives tt → Each (λ (x : Description). length x.names ≤ given_names_most) ds)
-        → (length d.names ≤ given_names_most) × Each (λ (x : Description). length x.names ≤ given_names_most) ds
-    by_test true r u rest = (leb-true _ _ r, rest u)
-    by_test false r u rest = refused_gives u
-
 -- ---- its names are the wanted description's
 
 with_names : (e : Edition) (f : Use → Answer Entry) (us : List Use) (x y : Entry)
@@ -116,13 +102,6 @@ with_names e f (u ∷ us) x y q = by_use (f u) q (λ z. with_names e f us (over_
 pub built_names : (e : Edition) (own : ℕ → Entry) (g : Graph) (d : ℕ) (x : Entry) → built (over_in e) own g d ≡ gives x
     → x.names ≡ (own d).names
 built_names e own g d x q = with_names e (brought (over_in e) own g uses_most (d ∷ [])) (g d) (own d) x q
-
-pub outcome_names : (e : Edition) (ds : List Description) (d : ℕ) (x : Entry) → outcome e ds d ≡ gives x
-    → x.names ≡ (description_at ds d).names
-unfolding own_of
-outcome_names e ds d x q =
-    built_names e (own_of e ds) (uses_of ds) d x q
-    ∙ described_names (bare e (description_at ds d).names) (description_at ds d).sayings
 
 -- ---- its states have a written form
 
@@ -180,23 +159,3 @@ pub record BuiltSound (e : Edition) (x : Entry) : Type 0 where
   pub named : 1 ≤ length x.names
   pub names_most : length x.names ≤ given_names_most
   pub names_free : NoNul x.names
-
-pub built_sound : (e : Edition) (t : List ℕ) (w : Wanted) (x : Entry) → building_text e t w ≡ gives x → BuiltSound e x
-built_sound e t w x h =
-    let b = text_built e t w x h in
-    let ds = b.descriptions in
-    let s = describing_stand e t ds b.described in
-    let l = wanted_below ds w b.wanted (describing_some e t ds b.described) b.found in
-    let d = each_at (StandsIn e t) ds b.wanted (description 0 [] []) s l in
-    let k = outcome_names e ds b.wanted x b.comes in
-    let n : x.names ≡ names_to t d.at d.comma = k ∙ d.names in
-    let r = (header_right t d.at d.comma d.header).names in
-    record {
-      states = outcome_sound e t ds b.wanted x s b.comes;
-      named = subst (λ (m : List ℕ). 1 ≤ length m) (sym n) (names_some (names_to t d.at d.comma) r);
-      names_most =
-          subst (λ (m : List ℕ). length m ≤ given_names_most) (sym k)
-          (each_at (λ (y : Description). length y.names ≤ given_names_most) ds b.wanted (description 0 [] [])
-          (totals_each ds b.total) l);
-      names_free = subst NoNul (sym n) (names_free_lem (names_to t d.at d.comma) r);
-    }

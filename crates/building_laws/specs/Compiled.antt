@@ -1,7 +1,7 @@
 -- Demand 2 for compiled files, over the definition that the call's contract names.
 -- Assumes nothing.
 use Rattle.std.specs.Prelude.{◌≡◌, refl, true, not, List, [], ◌∷◌, ℕ, ◌≤◌, leb, length}
-use Rattle.std.proofs.Common.{sym, subst, leb-true, le-leb}
+use Rattle.std.proofs.Common.{sym, leb-true, le-leb}
 use Rattle.base.specs.If.{when◌then◌else◌}
 use Rattle.base.specs.Answer.{Answer, refused, gives}
 use Rattle.edition.specs.declared.Edition.{Edition}
@@ -9,13 +9,11 @@ use Rattle.edition.specs.Edition.{ok_edition}
 use Rattle.entry.specs.Limits.{file_most}
 use Rattle.entry.specs.Reading.{Entry}
 use Rattle.entry.specs.Writing.{encode}
-use Rattle.entry_laws.specs.Sound.{WrittenIn}
 use Rattle.entry_laws.specs.Accepted.{test_passed}
 use Rattle.text.specs.Bytes.{text_most}
 use Rattle.text.specs.Building.{Wanted, building_text}
 use Rattle.text.specs.Compiling.{fitted, compiling}
 use Rattle.text_laws.specs.JudgingLaws.{refused_gives, given_is}
-use Rattle.building_laws.specs.Built.{built_sound}
 
 -- ---- when a text is compiled
 
@@ -70,26 +68,3 @@ compiled_only_if e t w room f c =
           fits = leb-true _ _ p₃.0;
           file = sym (given_is p₃.1);
         }
-
--- ---- a compiled file is written in its edition and holds what the text's definition gives
-
-pub compiled_holds : (e : Edition) (t : List ℕ) (w : Wanted) (room : ℕ) (f : List ℕ)
-    → (c : compiling e t w room ≡ gives f) → WrittenIn e (compiled_only_if e t w room f c).entry f
-compiled_holds e t w room f c =
-    let k = compiled_only_if e t w room f c in
-    let m = k.meets in
-    let d = built_sound e t w k.entry m.describes in
-    record {
-      sound =
-          record {
-            edition = subst (λ (i : Edition). ok_edition i ≡ true) (sym d.states.edition) m.edition;
-            named = d.named;
-            names_most = d.names_most;
-            names_free = d.names_free;
-            numbers_fit = d.states.numbers;
-            strings_free = d.states.strings;
-            fits = m.size;
-          };
-      edition = d.states.edition;
-      file = k.file;
-    }

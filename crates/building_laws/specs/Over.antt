@@ -222,7 +222,3 @@ described_over e n x (s ∷ ss) h =
     ∙ (over_assoc_in e x b (described (bare e n) ss)
     ∙ ap (over_in e x)
     (sym (described_over e n b ss (saying_edition (bare e n) s.saying ∙ bare_edition e n)))))
-
-pub bare_over : (e : Edition) (n : List ℕ) (ss : List SayingAt)
-    → over_in e (bare e n) (described (bare e n) ss) ≡ described (bare e n) ss
-bare_over e n ss = sym (described_over e n (bare e n) ss (bare_edition e n))

@@ -16,14 +16,15 @@ use Rattle.entry.specs.Limits.{given_names_most}
 use Rattle.entry.specs.Reading.{Entry}
 use Rattle.entry.specs.Writing.{Handed}
 use Rattle.uses.specs.Fast.{fast}
-use Rattle.uses.specs.Tree.{tree_fast}
+use Rattle.uses.proofs.Tree.{tree_fast}
 use Rattle.text.specs.declared.TextRefusal.{TextRefusal}
 use Rattle.text.specs.Describing.{Description, bare, describing}
 use Rattle.text.specs.Building.{Having, nobody, numbered, has_name, having_from, having, description_at, uses_of, over_in, own_of}
 use Rattle.text.specs.Building.{outcome, totals, Wanted, first, named, wanted_as, wanted_in, building, building_text}
 use Rattle.text.specs.Compiling.{fitted, fitting_named, text_number}
 use Rattle.text_laws.specs.JudgingLaws.{refused_gives, given_is}
-use Rattle.building_laws.specs.Over.{over_assoc_in, own_first, bare_over}
+use Rattle.building_laws.specs.Over.{over_assoc_in, own_first}
+use Rattle.building_laws.proofs.Over.{bare_over}
 use Rattle.compile_laws.specs.Held.{text_entry}
 use Rattle.text_laws.specs.HeadingLaws.{header_right}
 use Rattle.compile_laws.specs.Listed.{text_descriptions, Listed, UsesListed, Targets}

@@ -1,29 +1,30 @@
--- Demand 2 over writing, compiling and merging: a theorem for each of its sentences, with the sentence above it. What
--- it asks of expanded strings, their bytes and their steps, is the contract of `expand::expand`.
+-- Demand 2 over writing, compiling and merging: a statement for each of its sentences, with the sentence above it.
+-- Those that are types by themselves (`ReadsBack`, ..) are proved in proofs/Demand2.antt (`reads_back`, ..). What the
+-- demand asks of expanded strings, their bytes and their steps, is the contract of `expand::expand`.
 -- `calling` of Calls.antt is what the calls' contracts say the calls give; `opening` and `asking..` what those of
 -- opening and reading give.
 -- Assumes nothing.
 use Rattle.std.specs.Prelude.{◌≡◌, refl, true, List, ℕ, ◌-◌, ◌≤◌, length, take, drop}
-use Rattle.std.proofs.Common.{sym, ap, ◌∙◌, subst, arith, take_at}
-use Rattle.base.specs.Answer.{Answer, refused, gives, map_answer, buffer_after, Leaves}
+use Rattle.std.proofs.Common.{sym, ap, ◌∙◌, subst, take_at}
+use Rattle.base.specs.Answer.{Answer, gives, buffer_after, map_answer, Leaves}
 use Rattle.base.proofs.OverwriteLaws.{put_front}
 use Rattle.edition.specs.declared.Edition.{Edition}
 use Rattle.edition.specs.Edition.{ok_edition}
 use Rattle.entry.specs.declared.Beyond.{Beyond}
-use Rattle.entry.specs.Layout.{tables_of, beyond_of}
 use Rattle.entry.specs.Reading.{Entry}
 use Rattle.entry.specs.Asking.{Opening, opening}
-use Rattle.entry.specs.Writing.{sizes_for, encode, entry_of}
+use Rattle.entry.specs.Writing.{encode, entry_of}
 use Rattle.entry.specs.Merging.{merged}
 use Rattle.entry_laws.specs.Sound.{WrittenIn}
-use Rattle.entry_laws.specs.Asked.{opening_is}
-use Rattle.entry_laws.specs.Demands.{counts_of, written_if, written_only_if, written_holds, ReadsAsWritten}
-use Rattle.entry_laws.specs.Demands.{reads_as_written}
-use Rattle.entry_laws.specs.MergeDemands.{merged_if, merged_only_if, merged_holds}
-use Rattle.building_laws.specs.Compiled.{compiled_if, compiled_only_if, compiled_holds}
+use Rattle.entry_laws.specs.Demands.{written_if, written_only_if, ReadsAsWritten, counts_of}
+use Rattle.entry_laws.proofs.Demands.{written_holds}
+use Rattle.entry_laws.specs.MergeDemands.{merged_only_if}
+use Rattle.entry_laws.proofs.MergeDemands.{merged_if, merged_holds}
+use Rattle.building_laws.specs.Compiled.{compiled_if, compiled_only_if}
+use Rattle.building_laws.proofs.Compiled.{compiled_holds}
 use Rattle.demands.specs.Calls.{Call, write, compile, merge, calling, holding, MeetsLimits, WrittenBy}
 
-same : {A : Type 0} {y z : A} → ◌≡◌ {A = Answer A} (gives y) (gives z) → y ≡ z
+pub same : {A : Type 0} {y z : A} → ◌≡◌ {A = Answer A} (gives y) (gives z) → y ≡ z
 same u = cc
 
 -- ---- "A file is written exactly when the entry meets the limits and fits"
@@ -74,22 +75,17 @@ file_holds e x f w = by_call w.call w.file w.held
 
 -- in the edition that wrote it, opening gives the file's names, and each place that the edition knows is answered
 -- with the state that the entry holds: absent, cancelled, or present with the same content
-pub reads_back : (e : Edition) (x : Entry) (f : List ℕ) → WrittenBy e x f → ReadsAsWritten e x f
-reads_back e x f w =
-    let h : WrittenIn e x f = file_holds e x f w in
-    reads_as_written e x f h e (rw h.edition at h.sound.edition)
+abbrev pub ReadsBack : Type 0
+ReadsBack = (e : Edition) (x : Entry) (f : List ℕ) → WrittenBy e x f → ReadsAsWritten e x f
 
 -- the slots that a file has, as opening counts them
 abbrev pub slots_in : Opening → Edition
 slots_in o = record { booleans = o.tables.booleans; numbers = o.tables.numbers; strings = o.tables.strings }
 
 -- "Every written file, compiled and merged ones too, has exactly the edition's slots"
-pub exact_slots : (e : Edition) (x : Entry) (f : List ℕ) → WrittenBy e x f → (r : Edition) → ok_edition r ≡ true
+abbrev pub ExactSlots : Type 0
+ExactSlots = (e : Edition) (x : Entry) (f : List ℕ) → WrittenBy e x f → (r : Edition) → ok_edition r ≡ true
     → map_answer slots_in (opening r f) ≡ gives e
-unfolding tables_of sizes_for
-exact_slots e x f w r o =
-    let h : WrittenIn e x f = file_holds e x f w in
-    rw (opening_is e x f h r o) (ap gives h.edition)
 
 -- how many slots of a file written in the edition e lie beyond the edition r; a difference below 0 is 0
 abbrev pub beyond_past : Edition → Edition → Beyond
@@ -101,12 +97,9 @@ beyond_past e r =
     }
 
 -- "Opening also reports, per list, how many slots lie beyond the reader's edition"
-pub exact_beyond : (e : Edition) (x : Entry) (f : List ℕ) → WrittenBy e x f → (r : Edition) → ok_edition r ≡ true
+abbrev pub ExactBeyond : Type 0
+ExactBeyond = (e : Edition) (x : Entry) (f : List ℕ) → WrittenBy e x f → (r : Edition) → ok_edition r ≡ true
     → counts_of (opening r f) ≡ gives (beyond_past e r)
-unfolding beyond_of sizes_for
-exact_beyond e x f w r o =
-    let h : WrittenIn e x f = file_holds e x f w in
-    rw (opening_is e x f h r o) (ap (λ (d : Edition). gives (beyond_past d r)) h.edition)
 
 -- ---- from a call to its file
 
@@ -124,22 +117,6 @@ pub record HasFile (e : Edition) (k : Call e) (n : ℕ) (c : List ℕ) : Type 0 
   pub size : length (take n c) ≡ n
 
 -- the buffer holds b before the call; `Leaves` is what the calls' contracts say
-pub call_leaves_file : (e : Edition) (k : Call e) (b c : List ℕ) (n : ℕ)
+abbrev pub CallLeavesFile : Type 0
+CallLeavesFile = (e : Edition) (k : Call e) (b c : List ℕ) (n : ℕ)
     → Leaves (calling e k (length b)) b c (gives n) → HasFile e k n c
-call_leaves_file e k b c n l = by_answer (calling e k (length b)) refl l.0 l.1
-  where
-    by_answer : (a : Answer (List ℕ)) → calling e k (length b) ≡ a → gives n ≡ map_answer length a
-        → c ≡ buffer_after b a → HasFile e k n c
-    by_answer (refused m v) q i j = absurd (let z : ◌≡◌ {A = ℕ} 0 1 = cc in (let y : ⊥ = omega arith in y))
-    by_answer (gives f) q i j =
-        let g : take n c ≡ f = rw (same i, j) (file_in_front b f) in
-        let s : OnlyWhen e k (length b) f = written_only_when e k (length b) f q in
-        let w : WrittenBy e s.entry (take n c)
-        = record { call = k; room = length b; file = rw g q; held = s.held } in
-        record {
-          entry = s.entry;
-          held = s.held;
-          written = w;
-          reads = reads_as_written e s.entry (take n c) (file_holds e s.entry (take n c) w);
-          size = ap length g ∙ sym (same i);
-        }

@@ -1,22 +1,20 @@
--- Demand 3, whole, over writing, compiling and merging: a theorem for each of its five sentences, with the sentence
--- above it. `calling` of Calls.antt and `merging` are what the calls' contracts say the calls give; `opening` and
--- `asking..` what those of opening and reading give.
+-- Demand 3, whole, over writing, compiling and merging: a statement for each of its five sentences, with the sentence
+-- above it. Those that are types by themselves (`UnknownUnseen`, ..) are proved in proofs/Demand3.antt
+-- (`unknown_unseen`, ..). `calling` of Calls.antt and `merging` are what the calls' contracts say the calls give;
+-- `opening` and `asking..` what those of opening and reading give.
 -- Assumes nothing.
 use Rattle.std.specs.Prelude.{◌≡◌, true, false, List, ◌⊎◌, ℕ}
-use Rattle.std.proofs.Common.{ap, ◌∙◌}
 use Rattle.base.specs.Answer.{gives, map_answer, is_given, number_of}
 use Rattle.edition.specs.declared.Edition.{Edition}
 use Rattle.edition.specs.declared.Place.{Place}
-use Rattle.edition.specs.Edition.{ok_edition, knows, NoMore}
+use Rattle.edition.specs.Edition.{knows, NoMore, ok_edition}
 use Rattle.entry.specs.State.{absent, map_state}
 use Rattle.entry.specs.Reading.{Entry, bytes_of, held_boolean, held_number, held_string}
 use Rattle.entry.specs.Asking.{opening, asking_names, asking_boolean, asking_number, asking_string}
 use Rattle.entry.specs.Merging.{merged, merging}
-use Rattle.entry_laws.specs.Demands.{ReadsAsWritten, reads_as_written, only_reader}
-use Rattle.entry_laws.specs.Demands.{SameBelow, SameAnswers, same_answers, starts_of, SamePlaces, same_places}
-use Rattle.entry_laws.specs.MergeDemands.{merged_seen, own_merge}
+use Rattle.entry_laws.specs.Demands.{ReadsAsWritten, SameBelow, SameAnswers, starts_of, SamePlaces}
+use Rattle.entry_laws.proofs.MergeDemands.{merged_seen, own_merge}
 use Rattle.demands.specs.Calls.{WrittenBy}
-use Rattle.demands.specs.Demand2.{file_holds}
 
 -- ---- what one edition writes, every edition reads
 
@@ -32,17 +30,9 @@ pub record Reads (e r : Edition) (x : Entry) (f : List ℕ) : Type 0 where
   pub string : (p : Place) → knows e.strings p ≡ true → knows r.strings p ≡ true
       → map_answer (map_state (bytes_of f)) (asking_string r f p) ≡ gives (held_string x p)
 
-pub every_edition_reads : (e : Edition) (x : Entry) (f : List ℕ) → WrittenBy e x f
+abbrev pub EveryEditionReads : Type 0
+EveryEditionReads = (e : Edition) (x : Entry) (f : List ℕ) → WrittenBy e x f
     → (r : Edition) → ok_edition r ≡ true → Reads e r x f
-every_edition_reads e x f w r o =
-    let s : ReadsAsWritten r x f = reads_as_written e x f (file_holds e x f w) r o in
-    record {
-      opens = s.opens;
-      names = s.names;
-      boolean = λ p k l. s.booleans p l;
-      number = λ p k l. s.numbers p l;
-      string = λ p k l. s.strings p l;
-    }
 
 -- "Each that only the reader knows is absent."
 pub record OnlyReader (e r : Edition) (f : List ℕ) : Type 0 where
@@ -53,31 +43,21 @@ pub record OnlyReader (e r : Edition) (f : List ℕ) : Type 0 where
   pub string : (p : Place) → knows e.strings p ≡ false → knows r.strings p ≡ true
       → map_answer (map_state (bytes_of f)) (asking_string r f p) ≡ gives absent
 
-pub only_reader_absent : (e : Edition) (x : Entry) (f : List ℕ) → WrittenBy e x f
+abbrev pub OnlyReaderAbsent : Type 0
+OnlyReaderAbsent = (e : Edition) (x : Entry) (f : List ℕ) → WrittenBy e x f
     → (r : Edition) → ok_edition r ≡ true → OnlyReader e r f
-only_reader_absent e x f w r o =
-    let s : ReadsAsWritten r x f = reads_as_written e x f (file_holds e x f w) r o in
-    let only = only_reader e x f (file_holds e x f w) in
-    record {
-      boolean = λ p k l. s.booleans p l ∙ ap gives ((only p).0 k);
-      number = λ p k l. s.numbers p l ∙ ap gives ((only p).1.0 k);
-      string = λ p k l. s.strings p l ∙ ap gives ((only p).1.1 k);
-    }
-
--- ---- what a reader doesn't know, it doesn't see
 
 -- "Whatever two files are written in one edition under the same names, if they differ only in capabilities that a
 -- reader doesn't know, its answers (the counts from opening, each state and each content) are equal."
-pub unknown_unseen : (e : Edition) (x y : Entry) (f g : List ℕ) → WrittenBy e x f → WrittenBy e y g
+abbrev pub UnknownUnseen : Type 0
+UnknownUnseen = (e : Edition) (x y : Entry) (f g : List ℕ) → WrittenBy e x f → WrittenBy e y g
     → (r : Edition) → SameBelow r x y → SameAnswers r f g
-unknown_unseen e x y f g v w r same = same_answers e x y f g (file_holds e x f v) (file_holds e y g w) r same
 
 -- Where the tables of two such files start alike, whatever their editions, the reader is answered the same places and
 -- lengths of names and strings too.
-pub unknown_same_places : (e d : Edition) (x y : Entry) (f g : List ℕ) → WrittenBy e x f → WrittenBy d y g
+abbrev pub UnknownSamePlaces : Type 0
+UnknownSamePlaces = (e d : Edition) (x y : Entry) (f g : List ℕ) → WrittenBy e x f → WrittenBy d y g
     → (r : Edition) → SameBelow r x y → starts_of (opening r f) ≡ starts_of (opening r g) → SamePlaces r f g
-unknown_same_places e d x y f g v w r same starts =
-    same_places e d x y f g (file_holds e x f v) (file_holds d y g w) r same starts
 
 -- ---- merging
 

@@ -4,21 +4,17 @@ use Rattle.std.specs.Prelude.{◌≡◌, refl, true, List, ◌∷◌, ℕ, zero,
 use Rattle.std.proofs.Common.{sym, ◌∙◌, not-suc-le-zero, le_of_suc-le-suc, arith, length-append, leb-true, le-leb}
 use Rattle.base.proofs.IfLaws.{true_false, and_left, and_right}
 use Rattle.base.specs.Tabulate.{tabulate}
-use Rattle.base.proofs.TabulateLaws.{length_tabulate, get_d_tabulate, each_tabulate}
+use Rattle.base.proofs.TabulateLaws.{length_tabulate, get_d_tabulate}
 use Rattle.edition.specs.declared.Edition.{Edition}
 use Rattle.edition.specs.Edition.{ok_edition, place, booleans_most, numbers_most, strings_most, NoMore}
 use Rattle.entry.specs.declared.Sizes.{Sizes}
-use Rattle.entry.specs.Limits.{file_most}
 use Rattle.entry.specs.State.{State, absent, cancelled, present}
 use Rattle.base.specs.Answer.{Answer, refused, gives, and_then, is_given}
-use Rattle.entry.specs.Layout.{sizes_of}
 use Rattle.entry.specs.Reading.{reading, edition_of}
 use Rattle.entry.specs.Writing.{string_table, sizes_for, encode}
 use Rattle.entry.specs.Merging.{over, merged_boolean, merged_number, merged_string, merged, of_file}
-use Rattle.entry_laws.specs.Sound.{Sound, NumberFits, ContentFree}
 use Rattle.entry_laws.specs.Parts.{length_encode}
-use Rattle.entry_laws.specs.Accepted.{Accepted, accepted_facts, string_free, number_fits_lem, names_least_lem}
-use Rattle.entry_laws.specs.Accepted.{names_most_lem, names_free_lem}
+use Rattle.entry_laws.specs.Accepted.{Accepted, accepted_facts}
 
 -- ---- states
 
@@ -61,24 +57,6 @@ merged_edition e a b =
       booleans = length_tabulate (λ j. merged_boolean a b (place j)) e.booleans i;
       numbers = length_tabulate (λ j. merged_number a b (place j)) e.numbers i;
       strings = length_tabulate (λ j. merged_string a b (place j)) e.strings i;
-    }
-
--- a merge of accepted files that fits has a written form
-pub merged_sound : (e : Edition) (a b : List ℕ) → ok_edition e ≡ true → Accepted a → Accepted b
-    → length (encode (merged e a b)) ≤ file_most → Sound (merged e a b)
-unfolding merged
-merged_sound e a b o p q h =
-    record {
-      edition = rw (merged_edition e a b) o;
-      named = names_least_lem a p;
-      names_most = names_most_lem a p;
-      names_free = names_free_lem a p;
-      numbers_fit = each_tabulate NumberFits (λ i. merged_number a b (place i)) e.numbers absent
-          (λ i l. over_has NumberFits _ _ (number_fits_lem a p (place i)) (number_fits_lem b q (place i)));
-      strings_free = each_tabulate ContentFree (λ i. merged_string a b (place i)) e.strings absent
-          (λ i l.
-          over_has ContentFree _ _ (string_free a (sizes_of a) (place i)) (string_free b (sizes_of b) (place i)));
-      fits = h;
     }
 
 -- ---- editions

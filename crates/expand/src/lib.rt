@@ -52,7 +52,7 @@ fn expand_judged(
 
 // Expands a string, with arguments that are numbers or parts of a block of texts, into the free part of the buffer
 // from place at on, and changes the lasting variables in place; a refusal leaves both. The output holds no NUL where
-// no text holds one (`expanding_no_nul` of output_laws/specs/NoNul.antt).
+// no text holds one (`expanding_no_nul` of output_laws/proofs/NoNul.antt).
 pub fn expand_texts_lent(
     string: &[u8],
     arguments: [Argument; 9],
@@ -83,7 +83,7 @@ pub fn expand_texts_lent(
     expand_judged(string, arguments, texts, lasting, out, at)
 }
 
-// The same with nine numbers. The output holds no NUL (`numbers_no_nul` of output_laws/specs/NoNul.antt).
+// The same with nine numbers. The output holds no NUL (`numbers_no_nul` of output_laws/proofs/NoNul.antt).
 pub fn expand_lent(
     string: &[u8],
     arguments: [i32; 9],

@@ -208,4 +208,4 @@ pub texts_half : (s : List ℕ) → 2 * count_of prints_text s ≤ length s
 texts_half s = omega (arith, count_start prints_text s, half_by (length s) s 0 (omega arith))
 
 pub room_most : (s : List ℕ) → length s ≤ string_most → room_of s ≤ expansion_most
-room_most s h = omega (arith, texts_half s)
+room_most s h = omega (arith, count_start prints_text s, half_by (length s) s 0 (omega arith))

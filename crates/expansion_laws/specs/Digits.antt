@@ -41,5 +41,5 @@ digits_one b a n h = rw (digits_from, lt-ltb n b h)
 pub digits_more : (b a n : ℕ) → 2 ≤ b → b ≤ n → digits b a n ≡ digits b a (n / b) ++ (digit_byte a (n % b) ∷ [])
 unfolding digits digits_from
 digits_more b a n h l =
-    let again = digits_enough n b a (n / b) h (div_falls n b h l) in
+    let again = digits_same n (suc (n / b)) b a (n / b) h (div_falls n b h l) (omega arith) in
     rw (digits_from, le-ltb n b l) (ap (λ (ds : List ℕ). ds ++ (digit_byte a (n % b) ∷ [])) again)

@@ -25,7 +25,8 @@ use Rattle.entry.specs.Asking.{opening, asking, part_given}
 use Rattle.entry.specs.Writing.{state_of, entry_of, writing}
 use Rattle.entry_laws.specs.Asked.{asking_gives, map_asking}
 use Rattle.entry_laws.specs.Sound.{WrittenIn}
-use Rattle.entry_laws.specs.Demands.{written_holds, ReadsAsWritten, reads_as_written}
+use Rattle.entry_laws.specs.Demands.{ReadsAsWritten}
+use Rattle.entry_laws.proofs.Demands.{written_holds, reads_as_written}
 use Rattle.opened_file.proofs.Laws.{asking_unknown}
 use Rattle.list_states.specs.Listing.{Arrays, kind_given, value_given, states_of, arrays_after}
 use Rattle.list_states.specs.Written.{handed_back, entry_read, SameStates}

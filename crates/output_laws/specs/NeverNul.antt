@@ -1,5 +1,5 @@
 -- Document 02, 2026-04: "After this an expansion contains no NUL at all, and we want that shown"; 2026-07: "2026-04's
--- claim of no NUL then needs texts without NUL". `expanding_no_nul` of `NoNul.antt` says that this is so for all
+-- claim of no NUL then needs texts without NUL". `expanding_no_nul` of `proofs/NoNul.antt` says that this is so for all
 -- strings, arguments and variables, and `numbers_no_nul` that it is so for all numbers.
 -- Assumes nothing.
 use Rattle.std.specs.Prelude.{◌≡◌, List, ℕ, ℤ}

@@ -8,7 +8,8 @@ use Rattle.expansion.specs.Machine.{Machine, started, finished, run}
 use Rattle.expansion.specs.Machine.{Taken, goes_on, goes_to_else, goes_to_end, empty, full, mismatched, taking}
 use Rattle.expansion_laws.specs.Passes.{passed_to}
 use Rattle.expansion_laws.specs.Steps.{Point, start_of, Step, leads, refuses, step_by, step, Reaches, EndsAt}
-use Rattle.expansion_laws.specs.Ends.{run_ends, reaches_keeps}
+use Rattle.expansion_laws.specs.Ends.{reaches_keeps}
+use Rattle.expansion_laws.proofs.Ends.{run_ends}
 
 -- what taking an item comes to: K holds of the machine that it leaves, and P of the bytes that it prints
 abbrev pub HoldOf : (Machine → Type 0) → (List ℕ → Type 0) → Taken → Type 0

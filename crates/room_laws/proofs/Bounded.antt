@@ -35,7 +35,8 @@ use Rattle.expansion_laws.specs.Passes.{passed_to, passed_on}
 use Rattle.expansion_laws.specs.Counts.{count_one, count_of_rest, count_start, count_step, count_passed}
 use Rattle.expansion_laws.specs.Steps.{Point, Step, leads, refuses, step_by, step}
 use Rattle.expansion_laws.specs.Runs.{step_on, step_counts}
-use Rattle.expansion_laws.specs.Ends.{run_ends, reaches_keeps}
+use Rattle.expansion_laws.specs.Ends.{reaches_keeps}
+use Rattle.expansion_laws.proofs.Ends.{run_ends}
 use Rattle.output_laws.specs.Outputs.{output_holds}
 use Rattle.level_laws.specs.Levels.{RightAt}
 use Rattle.level_laws.proofs.RightLaws.{right_start, right_on, right_then, right_else, passed_right}

@@ -15,7 +15,7 @@ use Rattle.expansion.specs.declared.Argument.{Argument}
 use Rattle.expansion.specs.Arguments.{lies_in, each_passes, numbers_given}
 use Rattle.expansion.specs.Expanding.{Expanding, expanding}
 use Rattle.output_laws.specs.NeverNul.{NeverNul, FreeTexts}
-use Rattle.output_laws.specs.NoNul.{expanding_no_nul, numbers_no_nul}
+use Rattle.output_laws.proofs.NoNul.{expanding_no_nul, numbers_no_nul}
 use Rattle.terminfo.specs.Lent.{zero_lasting, expanding_asked, expanding_at}
 
 abbrev OutputFree : Answer (State Expanding) → Type 0

@@ -122,7 +122,7 @@ pub fn open_string<'a>(file: &'a [u8], edition: Edition, place: Place) -> String
 
 // Expands a string with nine numbers into the free part of the buffer from place at on. The lasting variables are lent
 // and change in place; on a refusal they and the buffer are as they were. The output holds no NUL (`numbers_no_nul` of
-// output_laws/specs/NoNul.antt).
+// output_laws/proofs/NoNul.antt).
 pub fn expand(
     string: &[u8],
     arguments: [i32; 9],
@@ -141,7 +141,7 @@ pub fn expand(
 }
 
 // The same with arguments that are numbers or parts of a block of texts. The output holds no NUL where no text holds
-// one (`expanding_no_nul` of output_laws/specs/NoNul.antt).
+// one (`expanding_no_nul` of output_laws/proofs/NoNul.antt).
 pub fn expand_texts(
     string: &[u8],
     arguments: [Argument; 9],

@@ -1,6 +1,8 @@
 // The calls for C and Rust: numbers and slices only (include/terminfo_c.h). Each answers one 64-bit number: the
 // refusal's number in the top byte, 0 for success, and below it what the refusal or the call gives. Proved: each says
 // as much as the call that it passes on. Assumed: nothing.
+#![tactic(auto)]
+
 ghost use Rattle.std.specs.Prelude.{◌≡◌, [], length};
 ghost use Rattle.base.specs.Answer.{map_answer};
 ghost use Rattle.entry.specs.Asking.{opening, asking_names};
@@ -337,7 +339,7 @@ pub extern "C" fn terminfo_capability(kind: u8, place: usize) -> u64
 }
 
 // Expands a string into the buffer from place at on: the steps above the output's length, or the refusal. The lasting
-// variables change in place. The output holds no NUL (`numbers_no_nul` of output_laws/specs/NoNul.antt).
+// variables change in place. The output holds no NUL (`numbers_no_nul` of output_laws/proofs/NoNul.antt).
 #[unsafe(no_mangle)]
 pub extern "C" fn terminfo_expand(
     string: &[u8],

@@ -2,6 +2,8 @@
 // and what is lent are those of the definition that its contract names. Assumed: nothing. It is a library of its own
 // since a function with two callers is compiled into neither: beside it `terminfo_expand` would take some 130
 // instructions more.
+#![tactic(auto)]
+
 ghost use Rattle.std.specs.Prelude.{◌≡◌, length};
 ghost use Rattle.expansion.specs.Expanding.{expanding};
 ghost use Rattle.c_arguments.specs.Given.{arguments_given};
@@ -9,7 +11,7 @@ ghost use Rattle.c_numbers.specs.Expanded.{ExpandedNumber};
 
 // Expands a string with arguments that are numbers (kind 0) or texts (any other) into the buffer from place at on: the
 // steps above the output's length, or the refusal. The lasting variables change in place. The output holds no NUL
-// where no text holds one (`expanding_no_nul` of output_laws/specs/NoNul.antt).
+// where no text holds one (`expanding_no_nul` of output_laws/proofs/NoNul.antt).
 #[unsafe(no_mangle)]
 pub extern "C" fn terminfo_expand_texts(
     string: &[u8],

@@ -8,7 +8,6 @@ use Prim.Native.Nat.{ℕ, ◌+◌, ◌-◌, ◌≤◌, ◌<◌}
 use Rattle.std.proofs.Math.Dec.{eqb, leb}
 use Rattle.base.specs.If.{when◌then◌else◌}
 use Rattle.base.proofs.IfLaws.{if_both}
-use Rattle.base.specs.Tabulate.{Each}
 use Rattle.base.specs.Answer.{Answer, refused, gives, map_answer}
 use Rattle.edition.specs.declared.Edition.{Edition}
 use Rattle.entry.specs.Limits.{content_most, number_most}
@@ -31,12 +30,11 @@ use Rattle.text.specs.Strings.{Read, whole, malformed, read_at, read_bytes, cont
 use Rattle.text.specs.Numbers.{digits_most, with_digits, number_form, digits_in, digits_at, number_at}
 use Rattle.text.specs.Fields.{string_form, form_at, closed, named_at, field_at}
 use Rattle.text.specs.Describing.{Saying, nothing, boolean, number, string, uses, boolean_by, number_by, string_by}
-use Rattle.text.specs.Describing.{saying_of, use_by, named_saying, Judging, judging, SayingAt, Fields, sayings_from}
-use Rattle.text.specs.Building.{UseAt, with_use, uses_in}
+use Rattle.text.specs.Describing.{saying_of, use_by, named_saying, Judging, judging}
+use Rattle.text.specs.Building.{UseAt}
 use Rattle.text_laws.specs.Reads.{read_after}
 use Rattle.text_laws.specs.FieldLaws.{field_after}
 use Rattle.text_laws.specs.JudgingLaws.{refused_gives, given_is, judged_field}
-use Rattle.text_laws.specs.SayingsLaws.{SaidIn, sayings_said}
 
 -- ---- where a string stands in a field
 
@@ -225,26 +223,3 @@ use_field e t p j n w u =
 -- the name in a `use` field stands behind `use=`
 abbrev pub NameBehind : List ℕ → UseAt → Type 0
 NameBehind t u = u.name ≡ read_bytes (read_at t (u.place + 4))
-
-with_behind : (t : List ℕ) (p : ℕ) (s : Saying) (us : List UseAt)
-    → ((n : List ℕ) → s ≡ uses n → n ≡ read_bytes (read_at t (p + 4))) → Each (NameBehind t) us
-    → Each (NameBehind t) (with_use p s us)
-with_behind t p nothing us h r = r
-with_behind t p (boolean q s) us h r = r
-with_behind t p (number q s) us h r = r
-with_behind t p (string q s) us h r = r
-with_behind t p (uses n) us h r = (h n refl, r)
-
-said_behind : (e : Edition) (t : List ℕ) (ss : List SayingAt) → Each (SaidIn e t) ss
-    → Each (NameBehind t) (uses_in ss)
-unfolding uses_in
-said_behind e t [] h = tt
-said_behind e t (s ∷ ss) h =
-    let k = h.0 in
-    with_behind t s.place s.saying (uses_in ss)
-    (λ n u. (use_field e t s.place (record { saying = s.saying; next = k.next }) n k.judged u).name)
-    (said_behind e t ss h.1)
-
-pub uses_behind : (e : Edition) (t : List ℕ) (i : ℕ) (f : Fields) → sayings_from e t i ≡ gives f
-    → Each (NameBehind t) (uses_in f.sayings)
-uses_behind e t i f w = said_behind e t f.sayings (sayings_said e t i f w)

@@ -11,60 +11,73 @@ use ti_common::output::complain_quoted;
 use ti_common::words::is_same;
 
 // Says a name that the edition knows no capability of.
-fn complain_nameless(name: &[u8]) {
+fn complain_nameless(rt: HostRuntime, name: &[u8]) {
     if is_same(name, b"use") {
-        complain(b"'use' names a description, and is written with =");
+        complain(rt, b"'use' names a description, and is written with =");
     } else {
-        ti_refusals::complain_unknown(name);
+        ti_refusals::complain_unknown(rt, name);
     }
 }
 
 // Says a name that is unknown, or whose capability is written in another way.
-fn complain_unknown(name: &[u8], edition: Edition) {
+fn complain_unknown(rt: HostRuntime, name: &[u8], edition: Edition) {
     match lookup::find(name, edition) {
-        Found::Unknown => complain_nameless(name),
+        Found::Unknown => complain_nameless(rt, name),
         Found::Boolean(_) => {
-            complain_quoted(name);
-            complain(b" is a boolean, which is written alone");
+            complain_quoted(rt, name);
+            complain(rt, b" is a boolean, which is written alone");
         }
         Found::Number(_) => {
-            complain_quoted(name);
-            complain(b" is a number, which is written with #");
+            complain_quoted(rt, name);
+            complain(rt, b" is a number, which is written with #");
         }
         Found::String(_) => {
-            complain_quoted(name);
-            complain(b" is a string, which is written with =");
+            complain_quoted(rt, name);
+            complain(rt, b" is a string, which is written with =");
         }
     }
 }
 
 // Says the limit that a field of the name is past; one of no capability is `use`, with a string.
-fn complain_limit(name: &[u8], edition: Edition) {
-    complain_quoted(name);
+fn complain_limit(rt: HostRuntime, name: &[u8], edition: Edition) {
+    complain_quoted(rt, name);
     match lookup::find(name, edition) {
-        Found::Unknown => complain(b" is longer than 1,000 bytes"),
-        Found::Boolean(_) => complain(b" is past a limit"),
-        Found::Number(_) => complain(b" is above 32,767, or has more than 99 digits"),
-        Found::String(_) => complain(b" is longer than 1,000 bytes"),
+        Found::Unknown => complain(rt, b" is longer than 1,000 bytes"),
+        Found::Boolean(_) => complain(rt, b" is past a limit"),
+        Found::Number(_) => complain(rt, b" is above 32,767, or has more than 99 digits"),
+        Found::String(_) => complain(rt, b" is longer than 1,000 bytes"),
     }
 }
 
 // Says what is wrong with a field of the name, whose form starts at a place.
-fn complain_named(name: &[u8], edition: Edition, why: TextRefusal, text: &[u8], form: usize)
+fn complain_named(
+    rt: HostRuntime,
+    name: &[u8],
+    edition: Edition,
+    why: TextRefusal,
+    text: &[u8],
+    form: usize,
+)
     requires { form ≤ text_room }
 {
     match why {
-        TextRefusal::Malformed => complain(b"malformed field"),
-        TextRefusal::Unknown => complain_unknown(name, edition),
-        TextRefusal::Limit => complain_limit(name, edition),
-        TextRefusal::NotFound => used::complain_missing(text, form + 1),
-        TextRefusal::Circular => used::complain_circular(text, form + 1),
-        TextRefusal::NinthUse => used::complain_ninth(text, form + 1),
+        TextRefusal::Malformed => complain(rt, b"malformed field"),
+        TextRefusal::Unknown => complain_unknown(rt, name, edition),
+        TextRefusal::Limit => complain_limit(rt, name, edition),
+        TextRefusal::NotFound => used::complain_missing(rt, text, form + 1),
+        TextRefusal::Circular => used::complain_circular(rt, text, form + 1),
+        TextRefusal::NinthUse => used::complain_ninth(rt, text, form + 1),
     }
 }
 
 // Says what is wrong with the field at a place.
-pub fn complain_field(text: &[u8], edition: Edition, why: TextRefusal, place: usize)
+pub fn complain_field(
+    rt: HostRuntime,
+    text: &[u8],
+    edition: Edition,
+    why: TextRefusal,
+    place: usize,
+)
     requires { length text.now ≤ text_room }
 {
     let end = text_bytes::name_end(text, place);
@@ -74,5 +87,5 @@ pub fn complain_field(text: &[u8], edition: Edition, why: TextRefusal, place: us
     if end < place {
         return;
     }
-    complain_named(&text[place..end], edition, why, text, end);
+    complain_named(rt, &text[place..end], edition, why, text, end);
 }

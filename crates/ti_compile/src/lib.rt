@@ -1,7 +1,9 @@
 // `ti compile [-e EDITION] [-n NAME] [FILE] OUT`: compiles a description of source text, through the library only
 // (documents 01 and 02). Proved: it is safe and ends; `compile_wanted` answers as `compiling` of text/specs says of
 // the text's first description or of the one that has the name; a refusal's number is that of text/specs; line and
-// column are those of positions/specs. Assumed: what libc and os say of C.
+// column are those of positions/specs. Assumed: what std says of the system.
+#![tactic(auto)]
+
 ghost use Rattle.std.specs.Prelude.{◌≤◌, length};
 ghost use Rattle.base.specs.Answer.{Leaves};
 ghost use Rattle.io.specs.Counts.{IsPrefixLen};
@@ -27,8 +29,9 @@ mod used;
 // A text's most bytes and one more, so that a longer text is refused and never cut.
 const TEXT_ROOM: usize = TEXT_MOST + 1;
 
-fn describe(words: Words) -> Status {
+fn describe(rt: HostRuntime, words: Words) -> Status {
     ti_common::words::describe(
+        rt,
         words,
         b"compile [-e EDITION] [-n NAME] [FILE] OUT",
         b"Compiles a description in FILE, or on standard input, to the file OUT: the first of the text, or the\n\
@@ -37,21 +40,22 @@ fn describe(words: Words) -> Status {
     )
 }
 
-fn misuse() -> Status {
-    ti_common::words::misuse(b"compile [-e EDITION] [-n NAME] [FILE] OUT")
+fn misuse(rt: HostRuntime) -> Status {
+    ti_common::words::misuse(rt, b"compile [-e EDITION] [-n NAME] [FILE] OUT")
 }
 
 // Says where a text is refused, by line and column.
-fn complain_position(p: Position) {
-    ti_common::complain(b":");
-    ti_common::complain_number(p.line);
-    ti_common::complain(b":");
-    ti_common::complain_number(p.column);
-    ti_common::complain(b": ");
+fn complain_position(rt: HostRuntime, p: Position) {
+    ti_common::complain(rt, b":");
+    ti_common::complain_number(rt, p.line);
+    ti_common::complain(rt, b":");
+    ti_common::complain_number(rt, p.column);
+    ti_common::complain(rt, b": ");
 }
 
 // Says that a text is refused at a place, where the name is wanted, and shows the line to a terminal.
 fn refuse_at(
+    rt: HostRuntime,
     source: &[u8],
     text: &[u8],
     name: &[u8],
@@ -62,23 +66,23 @@ fn refuse_at(
     requires { length text.now ≤ text_room }
 {
     let number = refusal_numbers::of_text(why);
-    ti_refusals::begin(source);
+    ti_refusals::begin(rt, source);
     if place == 0 {
-        ti_common::complain(b": ");
-        header::complain_first(why, name);
-        return ti_refusals::end_at(number, 0);
+        ti_common::complain(rt, b": ");
+        header::complain_first(rt, why, name);
+        return ti_refusals::end_at(rt, number, 0);
     }
     let p = positions::position_of(text, place);
-    complain_position(p);
+    complain_position(rt, p);
     if p.column == 1 {
-        header::complain_later(why);
+        header::complain_later(rt, why);
     } else {
-        field::complain_field(text, options.edition, why, place);
+        field::complain_field(rt, text, options.edition, why, place);
     }
-    let status = ti_refusals::end_at(number, place);
+    let status = ti_refusals::end_at(rt, number, place);
     let words = options.words;
     if words.is_terminal {
-        line::show(text, place);
+        line::show(rt, text, place);
     }
     status
 }
@@ -101,7 +105,14 @@ fn compile_wanted(
 }
 
 // Compiles the text and saves the file, or says why not.
-fn compile_text(source: &[u8], text: &[u8], name: &[u8], out: &[u8], options: Options) -> Status
+fn compile_text(
+    rt: HostRuntime,
+    source: &[u8],
+    text: &[u8],
+    name: &[u8],
+    out: &[u8],
+    options: Options,
+) -> Status
     requires { length text.now ≤ text_room }
 {
     let mut file = [0u8; FILE_MOST];
@@ -111,69 +122,76 @@ fn compile_text(source: &[u8], text: &[u8], name: &[u8], out: &[u8], options: Op
     match answer {
         Compiled::File(n) => {
             let k = ti_common::part(n, &file);
-            ti_files::save::save_saying(out, &file[..k], b"compiled: ")
+            ti_files::save::save_saying(rt, out, &file[..k], b"compiled: ")
         }
-        Compiled::Edition => ti_refusals::refuse_edition(),
-        Compiled::Length => refuse(source, b"the text is longer than 16,384 bytes", number),
-        Compiled::Refused(why, place) => refuse_at(source, text, name, options, why, place),
+        Compiled::Edition => ti_refusals::refuse_edition(rt),
+        Compiled::Length => refuse(rt, source, b"the text is longer than 16,384 bytes", number),
+        Compiled::Refused(why, place) => refuse_at(rt, source, text, name, options, why, place),
         Compiled::Size => refuse(
+            rt,
             source,
             b"the compiled file would be longer than 4,096 bytes",
             number,
         ),
-        Compiled::Room(n) => ti_refusals::refuse_room(source, n, number),
+        Compiled::Room(n) => ti_refusals::refuse_room(rt, source, n, number),
     }
 }
 
 // Reads the text and compiles it.
-fn compile_from(source: &[u8], name: &[u8], out: &[u8], options: Options) -> Status {
-    if !ti_files::save::is_output(out) {
+fn compile_from(
+    rt: HostRuntime,
+    source: &[u8],
+    name: &[u8],
+    out: &[u8],
+    options: Options,
+) -> Status {
+    if !ti_files::save::is_output(rt, out) {
         return Status::Failed;
     }
     let mut text = [0u8; TEXT_ROOM];
-    let got = ti_files::input::read_file(source, &mut text);
+    let got = ti_files::input::read_file(rt, source, &mut text);
     if !got.ok {
         return Status::Failed;
     }
     let k = ti_common::part(got.length, &text);
-    compile_text(source, &text[..k], name, out, options)
+    compile_text(rt, source, &text[..k], name, out, options)
 }
 
 // Compiles standard input.
-fn compile_standard(name: &[u8], options: Options) -> Status {
+fn compile_standard(rt: HostRuntime, name: &[u8], options: Options) -> Status {
     let mut out = io::buffer();
-    let named = ti_common::words::operand(options.words, 0, &mut out);
+    let named = ti_common::words::operand(rt, options.words, 0, &mut out);
     if !named.ok {
         return Status::Failed;
     }
     let n = named.length;
-    compile_from(b"-", name, &out[..n], options)
+    compile_from(rt, b"-", name, &out[..n], options)
 }
 
 // Compiles the file that is named.
-fn compile_named(name: &[u8], options: Options) -> Status {
+fn compile_named(rt: HostRuntime, name: &[u8], options: Options) -> Status {
     let mut source = io::buffer();
     let mut out = io::buffer();
-    let first = ti_common::words::operand(options.words, 0, &mut source);
-    let second = ti_common::words::operand(options.words, 1, &mut out);
+    let first = ti_common::words::operand(rt, options.words, 0, &mut source);
+    let second = ti_common::words::operand(rt, options.words, 1, &mut out);
     if !(first.ok & second.ok) {
         return Status::Failed;
     }
     let m = first.length;
     let n = second.length;
-    compile_from(&source[..m], name, &out[..n], options)
+    compile_from(rt, &source[..m], name, &out[..n], options)
 }
 
-fn compile_operands(name: &[u8], options: Options) -> Status {
-    match ti_common::words::count(options.words) {
-        1 => compile_standard(name, options),
-        2 => compile_named(name, options),
-        _ => misuse(),
+fn compile_operands(rt: HostRuntime, name: &[u8], options: Options) -> Status {
+    match ti_common::words::count(rt, options.words) {
+        1 => compile_standard(rt, name, options),
+        2 => compile_named(rt, name, options),
+        _ => misuse(rt),
     }
 }
 
 // Puts the name that is wanted at the slice's start; no byte where it is the text's first.
-fn wanted_name(wanted: Wanted, bytes: &mut [u8]) -> Word
+fn wanted_name(rt: HostRuntime, wanted: Wanted, bytes: &mut [u8]) -> Word
     ensures { IsPrefixLen result.length bytes.new }
 {
     match wanted {
@@ -181,36 +199,36 @@ fn wanted_name(wanted: Wanted, bytes: &mut [u8]) -> Word
             ok: true,
             length: 0,
         },
-        Wanted::Named(place) => ti_common::words::word_at(place as usize, bytes),
+        Wanted::Named(place) => ti_common::words::word_at(rt, place as usize, bytes),
     }
 }
 
-fn compile_taken(options: Options) -> Status {
+fn compile_taken(rt: HostRuntime, options: Options) -> Status {
     let mut name = io::buffer();
     let wanted = options.wanted;
-    let got = wanted_name(wanted, &mut name);
+    let got = wanted_name(rt, wanted, &mut name);
     if !got.ok {
         return Status::Failed;
     }
     let n = got.length;
-    compile_operands(&name[..n], options)
+    compile_operands(rt, &name[..n], options)
 }
 
-fn compile_words(words: Words) -> Status {
-    let options = ti_options::take(words, OwnOption::Name);
+fn compile_words(rt: HostRuntime, words: Words) -> Status {
+    let options = ti_options::take(rt, words, OwnOption::Name);
     let outcome = options.outcome;
     match outcome {
-        Outcome::Taken => compile_taken(options),
-        Outcome::Wrong => misuse(),
-        Outcome::Large => ti_refusals::refuse_edition(),
+        Outcome::Taken => compile_taken(rt, options),
+        Outcome::Wrong => misuse(rt),
+        Outcome::Large => ti_refusals::refuse_edition(rt),
     }
 }
 
-pub fn run(words: Words) -> Status {
+pub fn run(rt: HostRuntime, words: Words) -> Status {
     let task = words.task;
     match task {
-        Task::Run => compile_words(words),
-        Task::Usage => describe(words),
-        Task::Help => describe(words),
+        Task::Run => compile_words(rt, words),
+        Task::Usage => describe(rt, words),
+        Task::Help => describe(rt, words),
     }
 }

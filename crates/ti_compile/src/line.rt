@@ -33,34 +33,34 @@ fn line_start(text: &[u8], place: usize) -> usize
 }
 
 // Writes the line from its start on.
-fn complain_line(text: &[u8], start: usize) {
+fn complain_line(rt: HostRuntime, text: &[u8], start: usize) {
     let mut i = start;
     while i < text.len() {
         if text[i] == 10 {
             return;
         }
-        complain(&[view(text[i])]);
+        complain(rt, &[view(text[i])]);
         i += 1;
     }
 }
 
 // Writes a blank for each place from one to another.
-fn complain_blanks(from: usize, to: usize) {
+fn complain_blanks(rt: HostRuntime, from: usize, to: usize) {
     let mut i = from;
     while i < to {
-        complain(b" ");
+        complain(rt, b" ");
         i += 1;
     }
 }
 
 // Shows the line of a place and a caret below it.
-pub fn show(text: &[u8], place: usize) {
+pub fn show(rt: HostRuntime, text: &[u8], place: usize) {
     if text.len() < place {
         return;
     }
     let start = line_start(text, place);
-    complain_line(text, start);
-    complain(b"\n");
-    complain_blanks(start, place);
-    complain(b"^\n");
+    complain_line(rt, text, start);
+    complain(rt, b"\n");
+    complain_blanks(rt, start, place);
+    complain(rt, b"^\n");
 }

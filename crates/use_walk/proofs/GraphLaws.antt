@@ -17,7 +17,8 @@ use Rattle.uses.specs.Walk.{missing, found}
 use Rattle.text.specs.Describing.{Description, description}
 use Rattle.text.specs.Building.{Having, nobody, numbered, has_name, having_from, having, UseAt, uses_in, found_as}
 use Rattle.text.specs.Building.{description_at, uses_of}
-use Rattle.text_laws.specs.UseLaws.{NameBehind, uses_behind}
+use Rattle.text_laws.specs.UseLaws.{NameBehind}
+use Rattle.text_laws.proofs.UseLaws.{uses_behind}
 use Rattle.compile_laws.specs.Listed.{text_descriptions, used_name, target_of}
 use Rattle.use_turns.specs.Frames.{use_arrays, use_at, uses_from, graph_of, HoldsUses}
 use Rattle.use_walk.specs.Walks.{Arrays}

@@ -7,7 +7,6 @@ pub mod Finished
 pub mod Fast
 pub mod FastLaws
 pub mod Machine
-pub mod Tree
 pub mod Related
 pub mod Entered
 pub mod Examples

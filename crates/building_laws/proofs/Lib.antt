@@ -1,0 +1,4 @@
+pub mod Over
+pub mod Compiled
+pub mod Built
+pub mod Values

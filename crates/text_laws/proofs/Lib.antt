@@ -1,0 +1,2 @@
+pub mod DescribingLaws
+pub mod UseLaws
