@@ -43,7 +43,8 @@ def named(crate, listed):
         if file.suffix == ".rt":
             code = "\n".join(line.split("//")[0] for line in text.split("\n"))
             called.update(re.findall(r"(?<![\w:])([a-z_]\w*)::", code))
-            of_std.update(*(re.findall(r"\w+", use) for use in re.findall(r"\buse std::([^;]*);", code)))
+            for use in re.findall(r"\buse std::([^;]*);", code):
+                of_std.update(re.findall(r"(\w+)::\{self\b", use), re.findall(r"\w+", re.sub(r"\w+::", "", use)))
     own = {file.stem for file in (CRATES / crate / "src").rglob("*.rt")}
     names |= called - of_std  # `io::Error` behind `use std::io` names no crate
     return {name for name in names if name in listed or name in KIT} - own - {crate, "std"}

@@ -1,6 +1,9 @@
 // The program behind `ti`, which calls it with its own words behind one more: `tty` where standard error is a
-// terminal, else `plain`. It runs the crate of the command that is named, and hands its status to ti. Proved: it is
-// safe and ends. Assumed: what libc and os say of C.
+// terminal, else `plain`. It runs the crate of the command that is named, and ends with its status. Proved: it is
+// safe and ends. Assumed: what std says of the system.
+#![tactic(auto)]
+
+use std::process::ExitCode;
 use ti_common::words::{Task, Words, is_same};
 use ti_common::{Status, complain};
 
@@ -18,53 +21,53 @@ fn asks(word: &[u8], name: &[u8]) -> bool {
 }
 
 // Runs the command of that name, or all.
-fn run_command(name: &[u8], words: Words) -> Status {
+fn run_command(rt: HostRuntime, name: &[u8], words: Words) -> Status {
     let mut status = Status::Unknown;
     if asks(name, b"compile") {
-        status = ti_compile::run(words);
+        status = ti_compile::run(rt, words);
     }
     if asks(name, b"check") {
-        status = ti_check::run(words);
+        status = ti_check::run(rt, words);
     }
     if asks(name, b"show") {
-        status = ti_show::run(words);
+        status = ti_show::run(rt, words);
     }
     if asks(name, b"merge") {
-        status = ti_merge::run(words);
+        status = ti_merge::run(rt, words);
     }
     if asks(name, b"expand") {
-        status = ti_expand::run(words);
+        status = ti_expand::run(rt, words);
     }
     status
 }
 
 // Says that no command has the name.
-fn refuse_command(name: &[u8]) -> Status {
-    complain(b"ti: ");
-    ti_common::output::complain_quoted(name);
-    complain(b": no such command; see ti help\n");
+fn refuse_command(rt: HostRuntime, name: &[u8]) -> Status {
+    complain(rt, b"ti: ");
+    ti_common::output::complain_quoted(rt, name);
+    complain(rt, b": no such command; see ti help\n");
     Status::Failed
 }
 
 // The status of a command that was asked by its name.
-fn known(name: &[u8], status: Status) -> Status {
+fn known(rt: HostRuntime, name: &[u8], status: Status) -> Status {
     match status {
         Status::Done => Status::Done,
         Status::Refused => Status::Refused,
         Status::Failed => Status::Failed,
-        Status::Unknown => refuse_command(name),
+        Status::Unknown => refuse_command(rt, name),
     }
 }
 
 // Says how each command is called.
-fn list_commands() -> Status {
+fn list_commands(rt: HostRuntime) -> Status {
     let words = Words {
         first: WORDS_FROM,
         task: Task::Usage,
         is_terminal: false,
     };
-    match run_command(b"", words) {
-        Status::Done => help::list_rest(),
+    match run_command(rt, b"", words) {
+        Status::Done => help::list_rest(rt),
         Status::Refused => Status::Failed,
         Status::Failed => Status::Failed,
         Status::Unknown => Status::Failed,
@@ -72,37 +75,37 @@ fn list_commands() -> Status {
 }
 
 // Says what a command does.
-fn describe(name: &[u8]) -> Status {
+fn describe(rt: HostRuntime, name: &[u8]) -> Status {
     let words = Words {
         first: WORDS_FROM,
         task: Task::Help,
         is_terminal: false,
     };
-    match help::describe(name) {
+    match help::describe(rt, name) {
         Status::Done => Status::Done,
         Status::Refused => Status::Refused,
         Status::Failed => Status::Failed,
-        Status::Unknown => known(name, run_command(name, words)),
+        Status::Unknown => known(rt, name, run_command(rt, name, words)),
     }
 }
 
 // `ti help [COMMAND]`
-fn run_help() -> Status {
-    match os::arg_count() {
-        3 => list_commands(),
+fn run_help(rt: HostRuntime) -> Status {
+    match ti_common::words::count_all(rt) {
+        3 => list_commands(rt),
         4 => {
             let mut name = io::buffer();
-            let got = ti_common::words::word_at(3, &mut name);
+            let got = ti_common::words::word_at(rt, 3, &mut name);
             if !got.ok {
                 return Status::Failed;
             }
             let n = got.length;
             if n == 0 {
-                return refuse_command(b"");
+                return refuse_command(rt, b"");
             }
-            describe(&name[..n])
+            describe(rt, &name[..n])
         }
-        _ => ti_common::words::misuse(b"help [COMMAND]"),
+        _ => ti_common::words::misuse(rt, b"help [COMMAND]"),
     }
 }
 
@@ -112,38 +115,38 @@ fn is_help(name: &[u8]) -> bool {
 }
 
 // Runs the command that is named.
-fn run_named(name: &[u8], is_terminal: bool) -> Status {
+fn run_named(rt: HostRuntime, name: &[u8], is_terminal: bool) -> Status {
     if name.len() == 0 {
-        return refuse_command(name);
+        return refuse_command(rt, name);
     }
     if is_help(name) {
-        return run_help();
+        return run_help(rt);
     }
     let words = Words {
         first: WORDS_FROM,
         task: Task::Run,
         is_terminal,
     };
-    known(name, run_command(name, words))
+    known(rt, name, run_command(rt, name, words))
 }
 
-fn run() -> Status {
-    if os::arg_count() < 3 {
-        complain(b"usage: ti COMMAND [WORD]..; see ti help\n");
+fn run(rt: HostRuntime) -> Status {
+    if ti_common::words::count_all(rt) < 3 {
+        complain(rt, b"usage: ti COMMAND [WORD]..; see ti help\n");
         return Status::Failed;
     }
     let mut how = io::buffer();
     let mut name = io::buffer();
-    let first = ti_common::words::word_at(1, &mut how);
-    let second = ti_common::words::word_at(2, &mut name);
+    let first = ti_common::words::word_at(rt, 1, &mut how);
+    let second = ti_common::words::word_at(rt, 2, &mut name);
     if !(first.ok & second.ok) {
         return Status::Failed;
     }
     let m = first.length;
     let n = second.length;
-    run_named(&name[..n], is_same(&how[..m], b"tty"))
+    run_named(rt, &name[..n], is_same(&how[..m], b"tty"))
 }
 
-fn main() {
-    ti_common::finish(run());
+fn main(rt: HostRuntime) -> ExitCode {
+    ti_common::finish(run(rt))
 }
