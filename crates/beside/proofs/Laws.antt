@@ -22,17 +22,17 @@ pub folder_start : (p : List ℕ) → Folder p 0 0
 unfolding folder_in
 folder_start p = (refl, omega arith)
 
-pub folder_slash : (p : List ℕ) (i : ℕ) → get_or p i 0 ≡ 47 → Folder p (i + 1) (i + 1)
+pub folder_slash : (p : List ℕ) (i : ℕ) → get_or p i 0 ≡ 47 → i + 1 ≡ folder_in p (i + 1)
 unfolding folder_in
 folder_slash p i e =
     let n : i + 1 ≡ suc i = omega arith in
-    rw (n, eq-eqb (get_or p i 0) 47 e) (refl, omega arith)
+    rw (n, eq-eqb (get_or p i 0) 47 e) refl
 
-pub folder_other : (p : List ℕ) (i end : ℕ) → Folder p i end → (get_or p i 0 ≡ 47 → ⊥) → Folder p (i + 1) end
+pub folder_other : (p : List ℕ) (i end : ℕ) → end ≡ folder_in p i → (get_or p i 0 ≡ 47 → ⊥) → end ≡ folder_in p (i + 1)
 unfolding folder_in
 folder_other p i end f e =
     let n : i + 1 ≡ suc i = omega arith in
-    rw (n, ne_eqb (get_or p i 0) 47 e) (f.0, omega arith)
+    rw (n, ne_eqb (get_or p i 0) 47 e) f
 
 pub name_made : (path number b b₁ b₂ b₃ : List ℕ) (end : ℕ) → end ≡ folder_in path (length path) → IsPrefixLen end path → length path + length number + 4 ≤ length b
     → b₁ ≡ put_at b 0 (take end path) → b₂ ≡ put_at b₁ end (ascii ".ti-") → b₃ ≡ put_at b₂ (end + 4) number
