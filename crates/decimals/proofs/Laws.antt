@@ -13,7 +13,8 @@ use Rattle.expansion.specs.Print.{digit_byte}
 use Rattle.expansion_laws.specs.Digits.{digits_one, digits_more}
 use Rattle.expansion_laws.specs.DigitCount.{digits_some, digits_above, digits_below}
 use Rattle.digit_pairs.specs.Pairs.{pairs}
-use Rattle.digit_pairs.specs.Rule.{two_digits, pair_at}
+use Rattle.digit_pairs.specs.Rule.{two_digits}
+use Rattle.digit_pairs.proofs.Rule.{pair_at}
 use Rattle.decimals.specs.Decimals.{decimal_digits, last_pairs}
 
 -- ---- how many digits
