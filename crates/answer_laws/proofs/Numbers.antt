@@ -1,5 +1,6 @@
 -- What a number for C tells: first of any answer whose values lie within their bits, then enum by enum.
 -- Assumes nothing.
+use Rattle.std.specs.Prelude.{Option, Some, None, Result, Ok, Err}
 use mathlib.Core.Path.{◌≡◌, refl, sym, ap, subst, ◌∙◌}
 use mathlib.Core.Bool.{Bool, true, false}
 use mathlib.Core.List.{List, [], ◌∷◌}
@@ -19,29 +20,19 @@ use Rattle.edition.specs.Edition.{knows, place}
 use Rattle.entry.specs.declared.Part.{Part}
 use Rattle.entry.specs.declared.FileRefusal.{FileRefusal}
 use Rattle.entry.specs.declared.FileRefusal.TheVariants as R
-use Rattle.entry.specs.declared.Opened.{Opened}
-use Rattle.entry.specs.declared.Opened.TheVariants as O
-use Rattle.entry.specs.declared.Names.{Names}
-use Rattle.entry.specs.declared.Names.TheVariants as M
-use Rattle.entry.specs.declared.BooleanState.{BooleanState}
-use Rattle.entry.specs.declared.BooleanState.TheVariants as B
-use Rattle.entry.specs.declared.NumberState.{NumberState}
-use Rattle.entry.specs.declared.NumberState.TheVariants as N
-use Rattle.entry.specs.declared.StringState.{StringState}
-use Rattle.entry.specs.declared.StringState.TheVariants as S
-use Rattle.entry.specs.declared.Written.{Written}
-use Rattle.entry.specs.declared.Written.TheVariants as W
-use Rattle.entry.specs.declared.Merged.{Merged}
-use Rattle.entry.specs.declared.Merged.TheVariants as G
+use Rattle.entry.specs.declared.Opening.{Opening}
+use Rattle.entry.specs.declared.State as S
+use Rattle.entry.specs.declared.WriteRefusal.{WriteRefusal}
+use Rattle.entry.specs.declared.WriteRefusal.TheVariants as W
+use Rattle.entry.specs.declared.MergeRefusal.{MergeRefusal}
+use Rattle.entry.specs.declared.MergeRefusal.TheVariants as G
 use Rattle.entry.specs.State.{State, absent, cancelled, present}
 use Rattle.entry.specs.Limits.{file_most}
-use Rattle.entry.specs.Says.{file_number, file_values, file_position, says_opened, says_names, says_boolean, says_number}
-use Rattle.entry.specs.Says.{says_string, says_written, says_merged}
-use Rattle.list_states.specs.declared.Listed.{Listed}
-use Rattle.list_states.specs.declared.Listed.TheVariants as L
+use Rattle.entry.specs.Says.{file_number, file_values, file_position, says_file, says_asked, says_state}
+use Rattle.entry.specs.Says.{says_written, says_merged}
+use Rattle.list_states.specs.declared.ListRefusal.{ListRefusal}
+use Rattle.list_states.specs.declared.ListRefusal.TheVariants as L
 use Rattle.list_states.specs.Listing.{says_listed, ValueFits}
-use Rattle.names.specs.declared.Name.{Name}
-use Rattle.names.specs.declared.Name.TheVariants as A
 use Rattle.names.specs.Names.{ascii, parted, named, boolean_names, number_names, string_names, names_of}
 use Rattle.names.specs.Naming.{packed, naming, says_name}
 use Rattle.names.specs.declared.Found.{Found}
@@ -50,46 +41,47 @@ use Rattle.names.specs.Finding.{Capability, says_found}
 use Rattle.names.proofs.Places.{all, all_at}
 use Rattle.text.specs.declared.TextRefusal.{TextRefusal}
 use Rattle.text.specs.declared.TextRefusal.TheVariants as T
-use Rattle.text.specs.declared.Compiled.{Compiled}
-use Rattle.text.specs.declared.Compiled.TheVariants as C
+use Rattle.text.specs.declared.CompileRefusal.{CompileRefusal}
+use Rattle.text.specs.declared.CompileRefusal.TheVariants as C
 use Rattle.text.specs.Compiling.{text_number, says_compiled}
 use Rattle.building_laws.specs.Values.{Bounded}
-use Rattle.expansion.specs.declared.Expansion.{Expansion}
-use Rattle.expansion.specs.declared.Expansion.TheVariants as E
+use Rattle.expansion.specs.declared.Output.{Output}
+use Rattle.expansion.specs.declared.ExpansionRefusal.{ExpansionRefusal}
+use Rattle.expansion.specs.declared.ExpansionRefusal.TheVariants as E
 use Rattle.expansion.specs.Expanding.{Counts, says_expansion}
 use Rattle.c_numbers.specs.Numbers.{numbered, merging_number, none, state_code, kinded, part_code, kind_code, capability_code}
 use Rattle.c_numbers.specs.Numbers.{opening_array, counts_code}
-use Rattle.c_numbers.specs.Numbers.{PartWithin, NamesWithin, StringWithin, WrittenWithin, FileWithin, MergedWithin}
+use Rattle.c_numbers.specs.Numbers.{Any, PartWithin, NamesWithin, StateWithin, WrittenWithin, FileWithin, MergedWithin}
 use Rattle.c_numbers.specs.Numbers.{PlaceWithin, FoundWithin}
 use Rattle.c_numbers.proofs.Laws.{file_most_lem}
 use Rattle.answer_laws.specs.Distinct.{Injective}
-use Rattle.answer_laws.specs.Numbers.{Any, NumberWithin, OpenedWithin, NameWithin, ExpansionWithin, which_of}
+use Rattle.answer_laws.specs.Numbers.{NumberWithin, StringWithin, OpenedWithin, NameWithin, ExpansionWithin, which_of}
 use Rattle.answer_laws.specs.Numbers.{TopByte, Tells, KindByte, FileByte, Numbers}
 use Rattle.answer_laws.proofs.Back as back
 use Rattle.answer_laws.proofs.Distinct.{distinct}
 
 -- ---- any answer
 
--- a refusal's number isn't 0 and its first value is below the top byte; what is given meets Ok
+-- a refusal's number isn't 0 and its first value is below the top byte; what is given meets Good
 abbrev Fits : {A : Type 0} → (A → Type 0) → Answer A → Type 0
-Fits Ok (refused n v) = (1 ≤ n) × (get_or v 0 0 < 2 ^ 56)
-Fits Ok (gives x) = Ok x
+Fits Good (refused n v) = (1 ≤ n) × (get_or v 0 0 < 2 ^ 56)
+Fits Good (gives x) = Good x
 
-module _ {R A : Type 0} (says : R → Answer A) (Within : R → Type 0) (Ok : A → Type 0) (code : A → ℕ)
-    (fits : (r : R) → Within r → Fits Ok (says r)) (below : (x : A) → Ok x → code x < 2 ^ 56) where
-  number_above : (a : Answer A) → Fits Ok a → numbered code a / 2 ^ 56 ≡ number_of a
+module _ {R A : Type 0} (says : R → Answer A) (Within : R → Type 0) (Good : A → Type 0) (code : A → ℕ)
+    (fits : (r : R) → Within r → Fits Good (says r)) (below : (x : A) → Good x → code x < 2 ^ 56) where
+  number_above : (a : Answer A) → Fits Good a → numbered code a / 2 ^ 56 ≡ number_of a
   unfolding numbered
   number_above (refused n v) h = omega arith
   number_above (gives x) h =
       let l = below x h in
       omega arith
 
-  given_below : (a : Answer A) → Fits Ok a → is_given a ≡ true → numbered code a < 2 ^ 56
+  given_below : (a : Answer A) → Fits Good a → is_given a ≡ true → numbered code a < 2 ^ 56
   unfolding numbered
   given_below (refused n v) h e = true_false (sym e)
   given_below (gives x) h e = below x h
 
-  refused_above : (a : Answer A) → Fits Ok a → is_given a ≡ false → 2 ^ 56 ≤ numbered code a
+  refused_above : (a : Answer A) → Fits Good a → is_given a ≡ false → 2 ^ 56 ≤ numbered code a
   unfolding numbered
   refused_above (refused n v) h e = omega arith
   refused_above (gives x) h e = true_false e
@@ -101,7 +93,7 @@ module _ {R A : Type 0} (says : R → Answer A) (Within : R → Type 0) (Ok : A 
     refusal = λ r w e. omega (arith, refused_above (says r) (fits r w) e);
   }
 
-  plain_same : (a b : Answer A) → ((x y : A) → Ok x → Ok y → code x ≡ code y → x ≡ y) → Fits Ok a → Fits Ok b
+  plain_same : (a b : Answer A) → ((x y : A) → Good x → Good y → code x ≡ code y → x ≡ y) → Fits Good a → Fits Good b
       → numbered code a ≡ numbered code b → back.plain a ≡ back.plain b
   unfolding numbered
   plain_same (refused n v) (refused m w) t h k e =
@@ -116,7 +108,7 @@ module _ {R A : Type 0} (says : R → Answer A) (Within : R → Type 0) (Ok : A 
       absurd (let z : ⊥ = omega arith in z)
   plain_same (gives x) (gives y) t h k e = ap gives (t x y h k e)
 
-  telling : ((x y : A) → Ok x → Ok y → code x ≡ code y → x ≡ y)
+  telling : ((x y : A) → Good x → Good y → code x ≡ code y → x ≡ y)
       → (b : Answer A → R) → ((r : R) → Within r → b (back.plain (says r)) ≡ r) → Tells says Within (numbered code)
   telling t b law = record {
     byte = top_byte;
@@ -145,19 +137,19 @@ part_tells p q h k e =
     λ i. record { start = s i; length = n i }
 
 abbrev StateOk : {A : Type 0} → (A → Type 0) → State A → Type 0
-StateOk Ok absent = Unit {0}
-StateOk Ok cancelled = Unit {0}
-StateOk Ok (present x) = Ok x
+StateOk Good absent = Unit {0}
+StateOk Good cancelled = Unit {0}
+StateOk Good (present x) = Good x
 
-module _ {A : Type 0} (Ok : A → Type 0) (code : A → ℕ) (below : (x : A) → Ok x → code x < 2 ^ 48) where
-  state_below : (s : State A) → StateOk Ok s → state_code code s < 3 * 2 ^ 48
+module _ {A : Type 0} (Good : A → Type 0) (code : A → ℕ) (below : (x : A) → Good x → code x < 2 ^ 48) where
+  state_below : (s : State A) → StateOk Good s → state_code code s < 3 * 2 ^ 48
   unfolding state_code
   state_below absent h = omega arith
   state_below cancelled h = omega arith
   state_below (present x) h = omega (arith, below x h)
 
-  state_tells : ((x y : A) → Ok x → Ok y → code x ≡ code y → x ≡ y)
-      → (s t : State A) → StateOk Ok s → StateOk Ok t → state_code code s ≡ state_code code t → s ≡ t
+  state_tells : ((x y : A) → Good x → Good y → code x ≡ code y → x ≡ y)
+      → (s t : State A) → StateOk Good s → StateOk Good t → state_code code s ≡ state_code code t → s ≡ t
   unfolding state_code
   state_tells tell absent absent h k e = refl
   state_tells tell absent cancelled h k e = absurd (let z : ⊥ = omega arith in z)
@@ -184,8 +176,8 @@ marked_given : {A : Type 0} (a : Answer A) → is_given (marked a) ≡ is_given 
 marked_given (refused n v) = refl
 marked_given (gives x) = refl
 
-module _ {R A : Type 0} (says : R → Answer A) (Within : R → Type 0) (Ok : A → Type 0) (code : A → ℕ)
-    (fits : (r : R) → Within r → Fits Ok (marked (says r))) (below : (x : A) → Ok x → code x < 3 * 2 ^ 48) where
+module _ {R A : Type 0} (says : R → Answer A) (Within : R → Type 0) (Good : A → Type 0) (code : A → ℕ)
+    (fits : (r : R) → Within r → Fits Good (marked (says r))) (below : (x : A) → Good x → code x < 3 * 2 ^ 48) where
   kinded_number : (a : Answer A) → kinded code a ≡ numbered code (marked a)
   unfolding kinded numbered
   kinded_number (refused n v) = refl
@@ -196,7 +188,7 @@ module _ {R A : Type 0} (says : R → Answer A) (Within : R → Type 0) (Ok : A 
   refused_kind (refused n v) e = omega arith
   refused_kind (gives x) e = absurd (true_false e)
 
-  given_kind : (a : Answer A) → Fits Ok (marked a) → is_given a ≡ true → kinded code a / 2 ^ 48 % 256 ≤ 2
+  given_kind : (a : Answer A) → Fits Good (marked a) → is_given a ≡ true → kinded code a / 2 ^ 48 % 256 ≤ 2
   unfolding kinded
   given_kind (refused n v) h e = absurd (true_false (sym e))
   given_kind (gives x) h e = omega (arith, below x h)
@@ -207,7 +199,7 @@ module _ {R A : Type 0} (says : R → Answer A) (Within : R → Type 0) (Ok : A 
     given = λ r w e. omega (arith, given_kind (says r) (fits r w) e);
   }
 
-  kinded_telling : ((x y : A) → Ok x → Ok y → code x ≡ code y → x ≡ y)
+  kinded_telling : ((x y : A) → Good x → Good y → code x ≡ code y → x ≡ y)
       → (b : Answer A → R) → ((r : R) → b (back.plain (marked (says r))) ≡ r) → Tells says Within (kinded code)
   kinded_telling tell b law = record {
     byte = record {
@@ -223,31 +215,19 @@ module _ {R A : Type 0} (says : R → Answer A) (Within : R → Type 0) (Ok : A 
     where
       as_marked : Tells (λ r. marked (says r)) Within (numbered code)
       as_marked =
-          telling (λ r. marked (says r)) Within Ok code fits (λ x h. omega (arith, below x h)) tell b (λ r _. law r)
+          telling (λ r. marked (says r)) Within Good code fits (λ x h. omega (arith, below x h)) tell b (λ r _. law r)
 
-boolean_back : (r : BooleanState) → back.boolean (back.plain (marked (says_boolean r))) ≡ r
-boolean_back B.Absent = refl
-boolean_back B.Cancelled = refl
-boolean_back B.Present = refl
-boolean_back B.Refused = refl
+state_back : {A : Type 0} (r : Option (S.State A)) → back.state (back.plain (marked (says_state r))) ≡ r
+state_back (Some S.TheVariants.Absent) = refl
+state_back (Some S.TheVariants.Cancelled) = refl
+state_back (Some (S.TheVariants.Present x)) = refl
+state_back None = refl
 
-number_back : (r : NumberState) → back.number (back.plain (marked (says_number r))) ≡ r
-number_back N.Absent = refl
-number_back N.Cancelled = refl
-number_back (N.Present n) = refl
-number_back N.Refused = refl
-
-string_back : (r : StringState) → back.string (back.plain (marked (says_string r))) ≡ r
-string_back S.Absent = refl
-string_back S.Cancelled = refl
-string_back (S.Present p) = refl
-string_back S.Refused = refl
-
-found_back : (r : Found) → back.found (back.plain (marked (says_found r))) ≡ r
-found_back (F.Boolean p) = refl
-found_back (F.Number p) = refl
-found_back (F.String p) = refl
-found_back F.Unknown = refl
+found_back : (r : Option Found) → back.found (back.plain (marked (says_found r))) ≡ r
+found_back (Some (F.Boolean p)) = refl
+found_back (Some (F.Number p)) = refl
+found_back (Some (F.String p)) = refl
+found_back None = refl
 
 -- ---- capabilities
 
@@ -283,11 +263,11 @@ capability_tells c d h l e =
 
 -- ---- each enum's answers fit
 
-found_fits : (r : Found) → FoundWithin r → Fits CapabilityOk (marked (says_found r))
-found_fits (F.Boolean p) h = h
-found_fits (F.Number p) h = h
-found_fits (F.String p) h = h
-found_fits F.Unknown h = omega arith
+found_fits : (r : Option Found) → FoundWithin r → Fits CapabilityOk (marked (says_found r))
+found_fits (Some (F.Boolean p)) h = h
+found_fits (Some (F.Number p)) h = h
+found_fits (Some (F.String p)) h = h
+found_fits None h = omega arith
 
 file_some : (r : FileRefusal) → 1 ≤ file_number r
 file_some R.Length = omega arith
@@ -306,52 +286,47 @@ text_some T.NotFound = omega arith
 text_some T.Circular = omega arith
 text_some T.NinthUse = omega arith
 
-opened_fits : (r : Opened) → OpenedWithin r → Fits Any (says_opened r)
-opened_fits (O.Entry t b) h = tt
-opened_fits (O.Refused r) h = (file_some r, omega arith)
+opened_fits : (r : Result Opening FileRefusal) → OpenedWithin r → Fits Any (says_file r)
+opened_fits (Ok o) h = tt
+opened_fits (Err r) h = (file_some r, omega arith)
 
-names_fits : (r : Names) → NamesWithin r → Fits PartWithin (says_names r)
-names_fits (M.At p) h = h
-names_fits M.Refused h = omega arith
+names_fits : (r : Option Part) → NamesWithin r → Fits PartWithin (says_asked r)
+names_fits (Some p) h = h
+names_fits None h = omega arith
 
-boolean_fits : (r : BooleanState) → Any r → Fits (StateOk Any) (marked (says_boolean r))
-boolean_fits B.Absent h = tt
-boolean_fits B.Cancelled h = tt
-boolean_fits B.Present h = tt
-boolean_fits B.Refused h = omega arith
+state_fits : {A : Type 0} (Good : A → Type 0) (r : Option (S.State A)) → StateWithin Good r
+    → Fits (StateOk Good) (marked (says_state r))
+state_fits Good (Some S.TheVariants.Absent) h = tt
+state_fits Good (Some S.TheVariants.Cancelled) h = tt
+state_fits Good (Some (S.TheVariants.Present x)) h = h
+state_fits Good None h = omega arith
 
-number_fits_lem : (r : NumberState) → NumberWithin r → Fits (StateOk InWord) (marked (says_number r))
-number_fits_lem N.Absent h = tt
-number_fits_lem N.Cancelled h = tt
-number_fits_lem (N.Present n) h = h
-number_fits_lem N.Refused h = omega arith
+boolean_fits : (r : Option (S.State (Unit {0}))) → Any r → Fits (StateOk Any) (marked (says_state r))
+boolean_fits (Some S.TheVariants.Absent) h = tt
+boolean_fits (Some S.TheVariants.Cancelled) h = tt
+boolean_fits (Some (S.TheVariants.Present x)) h = tt
+boolean_fits None h = omega arith
 
-string_fits : (r : StringState) → StringWithin r → Fits (StateOk PartWithin) (marked (says_string r))
-string_fits S.Absent h = tt
-string_fits S.Cancelled h = tt
-string_fits (S.Present p) h = h
-string_fits S.Refused h = omega arith
+written_fits : (r : Result ℕ WriteRefusal) → WrittenWithin r → Fits InFile (says_written r)
+written_fits (Ok n) h = h
+written_fits (Err W.Counts) h = omega arith
+written_fits (Err W.Names) h = omega arith
+written_fits (Err W.Lent) h = omega arith
+written_fits (Err W.Limit) h = omega arith
+written_fits (Err W.Size) h = omega arith
+written_fits (Err (W.Room n)) h = omega arith
 
-written_fits : (r : Written) → WrittenWithin r → Fits InFile (says_written r)
-written_fits (W.File n) h = h
-written_fits W.Counts h = omega arith
-written_fits W.Names h = omega arith
-written_fits W.Lent h = omega arith
-written_fits W.Limit h = omega arith
-written_fits W.Size h = omega arith
-written_fits (W.Room n) h = omega arith
+compiled_fits : (r : Result ℕ CompileRefusal) → Bounded (says_compiled r) → Fits InFile (says_compiled r)
+compiled_fits (Ok n) h = h
+compiled_fits (Err C.Edition) h = omega arith
+compiled_fits (Err C.Length) h = omega arith
+compiled_fits (Err (C.Refused r)) h = (text_some r.why, omega arith)
+compiled_fits (Err C.Size) h = omega arith
+compiled_fits (Err (C.Room n)) h = omega arith
 
-compiled_fits : (r : Compiled) → Bounded (says_compiled r) → Fits InFile (says_compiled r)
-compiled_fits (C.File n) h = h
-compiled_fits C.Edition h = omega arith
-compiled_fits C.Length h = omega arith
-compiled_fits (C.Refused r p) h = (text_some r, omega arith)
-compiled_fits C.Size h = omega arith
-compiled_fits (C.Room n) h = omega arith
-
-name_fits : (r : Name) → NameWithin r → Fits (λ w. w < 2 ^ 56) (says_name r)
-name_fits (A.Packed w) h = omega arith
-name_fits A.Beyond h = omega arith
+name_fits : (r : Option ℕ) → NameWithin r → Fits (λ w. w < 2 ^ 56) (says_name r)
+name_fits (Some w) h = omega arith
+name_fits None h = omega arith
 
 -- ---- names
 
@@ -379,15 +354,15 @@ names_below k p = by_known (knows (length (names_of k)) p) refl
 abbrev CountsOk : Counts → Type 0
 CountsOk c = (c.length < 2 ^ 24) × (c.steps < 2 ^ 24)
 
-expansion_fits : (r : Expansion) → ExpansionWithin r → Fits CountsOk (says_expansion r)
-expansion_fits (E.Done n k) h = omega arith
-expansion_fits E.Place h = omega arith
-expansion_fits E.Length h = omega arith
-expansion_fits (E.Malformed i) h = omega arith
-expansion_fits (E.Empty i) h = omega arith
-expansion_fits (E.Full i) h = omega arith
-expansion_fits (E.Kind i) h = omega arith
-expansion_fits (E.Room n) h = omega arith
+expansion_fits : (r : Result Output ExpansionRefusal) → ExpansionWithin r → Fits CountsOk (says_expansion r)
+expansion_fits (Ok o) h = omega arith
+expansion_fits (Err E.Place) h = omega arith
+expansion_fits (Err E.Length) h = omega arith
+expansion_fits (Err (E.Malformed i)) h = omega arith
+expansion_fits (Err (E.Empty i)) h = omega arith
+expansion_fits (Err (E.Full i)) h = omega arith
+expansion_fits (Err (E.Kind i)) h = omega arith
+expansion_fits (Err (E.Room n)) h = omega arith
 
 counts_tell : (c d : Counts) → CountsOk c → CountsOk d → counts_code c ≡ counts_code d → c ≡ d
 counts_tell c d h k e =
@@ -425,22 +400,22 @@ file_folded : (k : ℕ) (r : FileRefusal)
     → folded (refused (file_number r) (k ∷ file_values r)) ≡ refused (file_number r) ((k * 2 ^ 48 + file_position r) ∷ [])
 file_folded k r = rw (le-leb (file_number r) 7 (file_most_lem r))
 
-merged_fits : (r : Merged) → MergedWithin r → Fits InFile (folded (says_merged r))
-merged_fits (G.File n) h = h
-merged_fits G.Edition h = omega arith
-merged_fits (G.First r) h = subst (Fits InFile) (sym (file_folded 1 r)) (file_some r, omega arith)
-merged_fits (G.Second r) h = subst (Fits InFile) (sym (file_folded 2 r)) (file_some r, omega arith)
-merged_fits G.Size h = omega arith
-merged_fits (G.Room n) h = omega arith
+merged_fits : (r : Result ℕ MergeRefusal) → MergedWithin r → Fits InFile (folded (says_merged r))
+merged_fits (Ok n) h = h
+merged_fits (Err G.Edition) h = omega arith
+merged_fits (Err (G.First r)) h = subst (Fits InFile) (sym (file_folded 1 r)) (file_some r, omega arith)
+merged_fits (Err (G.Second r)) h = subst (Fits InFile) (sym (file_folded 2 r)) (file_some r, omega arith)
+merged_fits (Err G.Size) h = omega arith
+merged_fits (Err (G.Room n)) h = omega arith
 
-abbrev unfolded : Answer ℕ → Merged
-unfolded (gives n) = G.File n
+abbrev unfolded : Answer ℕ → Result ℕ MergeRefusal
+unfolded (gives n) = Ok n
 unfolded (refused n v) =
-    when eqb n 9 then G.Size else when eqb n 8 then G.Room (get_or v 0 0)
-    else back.of_file (get_or v 0 0 / 2 ^ 48) n (get_or v 0 0 % 2 ^ 48)
+    Err (when eqb n 9 then G.Size else when eqb n 8 then G.Room (get_or v 0 0)
+    else back.of_file (get_or v 0 0 / 2 ^ 48) n (get_or v 0 0 % 2 ^ 48))
 
 file_unfolded : (k : ℕ) (r : FileRefusal) → FileWithin r
-    → unfolded (refused (file_number r) ((k * 2 ^ 48 + file_position r) ∷ [])) ≡ back.of_file k (file_number r) (file_position r)
+    → unfolded (refused (file_number r) ((k * 2 ^ 48 + file_position r) ∷ [])) ≡ Err (back.of_file k (file_number r) (file_position r))
 file_unfolded k r h =
     let m = file_most_lem r in
     let w : (k * 2 ^ 48 + file_position r) / 2 ^ 48 ≡ k = omega arith in
@@ -452,15 +427,15 @@ file_unfolded k r h =
       p,
     )
 
-merged_back : (r : Merged) → MergedWithin r → unfolded (back.plain (folded (says_merged r))) ≡ r
-merged_back (G.File n) h = refl
-merged_back G.Edition h = refl
-merged_back (G.First r) h =
-    ap (λ (a : Answer ℕ). unfolded (back.plain a)) (file_folded 1 r) ∙ file_unfolded 1 r h ∙ ap G.First (back.file_back r)
-merged_back (G.Second r) h =
-    ap (λ (a : Answer ℕ). unfolded (back.plain a)) (file_folded 2 r) ∙ file_unfolded 2 r h ∙ ap G.Second (back.file_back r)
-merged_back G.Size h = refl
-merged_back (G.Room n) h = refl
+merged_back : (r : Result ℕ MergeRefusal) → MergedWithin r → unfolded (back.plain (folded (says_merged r))) ≡ r
+merged_back (Ok n) h = refl
+merged_back (Err G.Edition) h = refl
+merged_back (Err (G.First r)) h =
+    ap (λ (a : Answer ℕ). unfolded (back.plain a)) (file_folded 1 r) ∙ file_unfolded 1 r h ∙ ap (λ (w : FileRefusal). Err (G.First w)) (back.file_back r)
+merged_back (Err (G.Second r)) h =
+    ap (λ (a : Answer ℕ). unfolded (back.plain a)) (file_folded 2 r) ∙ file_unfolded 2 r h ∙ ap (λ (w : FileRefusal). Err (G.Second w)) (back.file_back r)
+merged_back (Err G.Size) h = refl
+merged_back (Err (G.Room n)) h = refl
 
 merged_tells : Tells says_merged MergedWithin (merging_number (λ n. n))
 merged_tells = record {
@@ -495,22 +470,22 @@ file_byte = record {
   second = λ r h. rw (file_number_lem 2 r) (omega arith);
 }
   where
-    which : (r : Merged) → MergedWithin r → merging_number (λ n. n) (says_merged r) / 2 ^ 48 % 256 ≡ which_of r
-    which (G.File n) h = omega arith
-    which G.Edition h = refl
-    which (G.First r) h = rw (file_number_lem 1 r) (omega arith)
-    which (G.Second r) h = rw (file_number_lem 2 r) (omega arith)
-    which G.Size h = refl
-    which (G.Room n) h = omega arith
+    which : (r : Result ℕ MergeRefusal) → MergedWithin r → merging_number (λ n. n) (says_merged r) / 2 ^ 48 % 256 ≡ which_of r
+    which (Ok n) h = omega arith
+    which (Err G.Edition) h = refl
+    which (Err (G.First r)) h = rw (file_number_lem 1 r) (omega arith)
+    which (Err (G.Second r)) h = rw (file_number_lem 2 r) (omega arith)
+    which (Err G.Size) h = refl
+    which (Err (G.Room n)) h = omega arith
 
 -- ---- opening
 
-opened_tells : (r s : Opened) → OpenedWithin r → OpenedWithin s → is_given (says_opened r) ≡ false
-    → numbered none (says_opened r) ≡ numbered none (says_opened s) → r ≡ s
+opened_tells : (r s : Result Opening FileRefusal) → OpenedWithin r → OpenedWithin s → is_given (says_file r) ≡ false
+    → numbered none (says_file r) ≡ numbered none (says_file s) → r ≡ s
 unfolding numbered
-opened_tells (O.Entry t b) s h k g e = true_false g
-opened_tells (O.Refused r) (O.Entry t b) h k g e = absurd (let z : ⊥ = omega (arith, file_some r) in z)
-opened_tells (O.Refused r) (O.Refused s) h k g e = ap O.Refused (distinct.file r s (omega arith) (omega arith))
+opened_tells (Ok o) s h k g e = true_false g
+opened_tells (Err r) (Ok o) h k g e = absurd (let z : ⊥ = omega (arith, file_some r) in z)
+opened_tells (Err r) (Err s) h k g e = ap Err (distinct.file r s (omega arith) (omega arith))
 
 array_tells : Injective opening_array
 array_tells o p e = λ i. record {
@@ -529,14 +504,14 @@ array_tells o p e = λ i. record {
     at : (k : ℕ) → get_or (opening_array o) k 0 ≡ get_or (opening_array p) k 0
     at k = ap (λ (a : List ℕ). get_or a k 0) e
 
-opened_position : (r : FileRefusal) → FileWithin r → numbered none (says_opened (O.Refused r)) % 2 ^ 48 ≡ file_position r
+opened_position : (r : FileRefusal) → FileWithin r → numbered none (says_file {A = Opening} (Err r)) % 2 ^ 48 ≡ file_position r
 unfolding numbered
 opened_position r h = omega arith
 
-listed_fits : (r : Listed) → ValueFits r → Fits Any (says_listed r)
-listed_fits L.Done h = tt
-listed_fits (L.Refused r) h = (file_some r, omega arith)
-listed_fits (L.Room n) h = omega arith
+listed_fits : (r : Result (Unit {0}) ListRefusal) → ValueFits r → Fits Any (says_listed r)
+listed_fits (Ok x) h = tt
+listed_fits (Err (L.File r)) h = (file_some r, omega arith)
+listed_fits (Err (L.Room n)) h = omega arith
 
 -- ---- states are below the kind of a refusal
 
@@ -555,24 +530,25 @@ pub numbers : Numbers
 numbers =
     record {
       names =
-          telling says_names NamesWithin PartWithin part_code names_fits (λ p h. omega arith) part_tells
-          back.names (λ r _. back.names_back r);
+          telling says_asked NamesWithin PartWithin part_code names_fits (λ p h. omega arith) part_tells
+          back.asked (λ r _. back.asked_back r);
       boolean =
-          kinded_telling says_boolean Any (StateOk Any) (state_code none) boolean_fits booleans_below
-          (state_tells Any none (λ x h. omega arith) (λ x y h k e. refl)) back.boolean boolean_back;
+          kinded_telling says_state Any (StateOk Any) (state_code none) boolean_fits booleans_below
+          (state_tells Any none (λ x h. omega arith) (λ x y h k e. refl)) back.state state_back;
       number =
-          kinded_telling says_number NumberWithin (StateOk InWord) (state_code (λ n. n)) number_fits_lem numbers_below
-          (state_tells InWord (λ n. n) (λ x h. omega arith) (λ x y h k e. e)) back.number number_back;
+          kinded_telling says_state NumberWithin (StateOk InWord) (state_code (λ n. n)) (state_fits InWord) numbers_below
+          (state_tells InWord (λ n. n) (λ x h. omega arith) (λ x y h k e. e)) back.state state_back;
       string =
-          kinded_telling says_string StringWithin (StateOk PartWithin) (state_code part_code) string_fits strings_below
-          (state_tells PartWithin part_code part_below part_tells) back.string string_back;
+          kinded_telling says_state StringWithin (StateOk PartWithin) (state_code part_code) (state_fits PartWithin)
+          strings_below
+          (state_tells PartWithin part_code part_below part_tells) back.state state_back;
       found =
           kinded_telling says_found FoundWithin CapabilityOk capability_code found_fits capability_below
           capability_tells back.found found_back;
-      boolean_kind = kind_byte says_boolean Any (StateOk Any) (state_code none) boolean_fits booleans_below;
-      number_kind = kind_byte says_number NumberWithin (StateOk InWord) (state_code (λ n. n)) number_fits_lem numbers_below;
+      boolean_kind = kind_byte says_state Any (StateOk Any) (state_code none) boolean_fits booleans_below;
+      number_kind = kind_byte says_state NumberWithin (StateOk InWord) (state_code (λ n. n)) (state_fits InWord) numbers_below;
       string_kind =
-          kind_byte says_string StringWithin (StateOk PartWithin) (state_code part_code) string_fits strings_below;
+          kind_byte says_state StringWithin (StateOk PartWithin) (state_code part_code) (state_fits PartWithin) strings_below;
       found_kind = kind_byte says_found FoundWithin CapabilityOk capability_code found_fits capability_below;
       written =
           telling says_written WrittenWithin InFile (λ n. n) written_fits in_file_below (λ x y h k e. e)
@@ -584,10 +560,10 @@ numbers =
           (λ x y h k e. e) back.compiled (λ r _. back.compiled_back r);
       name =
           telling says_name NameWithin (λ w. w < 2 ^ 56) (λ w. w) name_fits (λ w h. h) (λ x y h k e. e)
-          back.name (λ r _. back.name_back r);
+          back.asked (λ r _. back.asked_back r);
       listed = names_below;
       expansion = expansion_tells;
-      opened = top_byte says_opened OpenedWithin Any none opened_fits (λ x h. omega arith);
+      opened = top_byte says_file OpenedWithin Any none opened_fits (λ x h. omega arith);
       position = opened_position;
       list =
           telling says_listed ValueFits Any none listed_fits (λ x h. omega arith) (λ x y h k e. refl)

@@ -1,12 +1,11 @@
 -- Laws that the proofs cite: a word's tests in order.
 -- Assumes nothing.
-use mathlib.Core.Path.{◌≡◌, refl, sym, ap, ◌∙◌}
+use Rattle.std.specs.Prelude.{Some}
+use mathlib.Core.Path.{◌≡◌}
 use mathlib.Core.Bool.{true, false}
-use mathlib.Core.List.{List, [], ◌∷◌}
-use Prim.Native.Nat.{ℕ, ◌-◌}
-use native.Mathlib.Omega.{arith}
-use lib.ListN.{length, get_or, take, drop, length-drop}
-use lib.Seq.{take-length}
+use mathlib.Core.List.{List}
+use Prim.Native.Nat.{ℕ}
+use lib.ListN.{get_or, drop}
 use borrow.Author.Tests.{eq-eqb, ne_eqb}
 use Rattle.number_words.specs.Number.{is_numeral, value_of}
 use Rattle.argument_words.specs.declared.ArgumentWord.TheVariants.{Text}
@@ -14,32 +13,19 @@ use Rattle.argument_words.specs.Argument.{unsigned, number_of, argument_of}
 
 -- ---- digits, after a minus or not
 
-pub decimal_empty : (w : List ℕ) → length w ≡ 0 → false ≡ is_numeral (unsigned w)
-unfolding unsigned
-decimal_empty [] e = refl
-decimal_empty (c ∷ w) e = absurd (let z : ⊥ = omega arith in z)
-
 module _ (w : List ℕ) where
   pub decimal_plain : (get_or w 0 0 ≡ 45 → ⊥) → is_numeral w ≡ is_numeral (unsigned w)
   unfolding unsigned
   decimal_plain h = rw (ne_eqb (get_or w 0 0) 45 h)
 
-  pub decimal_minus : get_or w 0 0 ≡ 45 → is_numeral (take (length w - 1) (drop 1 w)) ≡ is_numeral (unsigned w)
+  pub decimal_minus : get_or w 0 0 ≡ 45 → is_numeral (drop 1 w) ≡ is_numeral (unsigned w)
   unfolding unsigned
-  decimal_minus h = rw (eq-eqb (get_or w 0 0) 45 h) (ap is_numeral rest)
-    where
-      rest : take (length w - 1) (drop 1 w) ≡ drop 1 w
-      rest = ap (λ (n : ℕ). take n (drop 1 w)) (sym (length-drop 1 w)) ∙ take-length (drop 1 w)
+  decimal_minus h = rw (eq-eqb (get_or w 0 0) 45 h)
 
 -- ---- words
 
-pub word_empty : (w : List ℕ) → length w ≡ 0 → Text 0 ≡ argument_of w
-unfolding argument_of unsigned
-word_empty [] e = refl
-word_empty (c ∷ w) e = absurd (let z : ⊥ = omega arith in z)
-
 module _ (w : List ℕ) where
-  pub word_equals : get_or w 0 0 ≡ 61 → Text 1 ≡ argument_of w
+  pub word_equals : get_or w 0 0 ≡ 61 → Some (Text 1) ≡ argument_of w
   unfolding argument_of
   word_equals h = rw (eq-eqb (get_or w 0 0) 61 h)
 
@@ -47,6 +33,6 @@ module _ (w : List ℕ) where
   unfolding argument_of
   word_number h e = rw (ne_eqb (get_or w 0 0) 61 h, e)
 
-  pub word_text : (get_or w 0 0 ≡ 61 → ⊥) → is_numeral (unsigned w) ≡ false → Text 0 ≡ argument_of w
+  pub word_text : (get_or w 0 0 ≡ 61 → ⊥) → is_numeral (unsigned w) ≡ false → Some (Text 0) ≡ argument_of w
   unfolding argument_of
   word_text h e = rw (ne_eqb (get_or w 0 0) 61 h, e)

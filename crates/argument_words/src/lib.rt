@@ -6,53 +6,38 @@ ghost use Rattle.std.specs.Prelude.{◌≡◌};
 ghost use Rattle.number_words.specs.Number.{is_numeral};
 ghost use Rattle.argument_words.specs.Argument.{unsigned, number_of, argument_of};
 
-use number_words::Parsed;
-
 // What a word is as an argument.
 #[derive(Clone, Copy)]
 pub enum ArgumentWord {
     Number(i32),
     // where the text starts in the word: behind its `=`, or at its first byte
     Text(usize),
-    // decimal digits whose value 32 bits with a sign don't hold
-    Wrong,
 }
 
 // Whether a word is decimal digits, after a minus or not.
 fn is_decimal(word: &[u8]) -> bool
     ensures { result ≡ is_numeral (unsigned word.now) }
 {
-    if word.len() == 0 {
-        return false;
+    match word.strip_prefix(b"-") {
+        Some(digits) => number_words::is_numeral(digits),
+        None => number_words::is_numeral(word),
     }
-    if word[0] != b'-' {
-        return number_words::is_numeral(word);
-    }
-    number_words::is_numeral(&word[1..])
 }
 
 // Digits as an argument.
-fn number(value: Parsed) -> ArgumentWord
+fn number(value: Option<i32>) -> Option<ArgumentWord>
     ensures { result ≡ number_of value }
 {
-    match value {
-        Parsed::Value(v) => ArgumentWord::Number(v),
-        Parsed::Wrong => ArgumentWord::Wrong,
-    }
+    value.map(ArgumentWord::Number)
 }
 
-// The argument that a word is.
-pub fn parse(word: &[u8]) -> ArgumentWord
+// The argument that a word is; none for decimal digits whose value 32 bits with a sign don't hold.
+pub fn parse(word: &[u8]) -> Option<ArgumentWord>
     ensures { result ≡ argument_of word.now }
 {
-    if word.len() == 0 {
-        return ArgumentWord::Text(0);
+    match word.strip_prefix(b"=") {
+        Some(_) => Some(ArgumentWord::Text(1)),
+        None if is_decimal(word) => number(number_words::parse(word)),
+        None => Some(ArgumentWord::Text(0)),
     }
-    if word[0] == b'=' {
-        return ArgumentWord::Text(1);
-    }
-    if is_decimal(word) {
-        return number(number_words::parse(word));
-    }
-    ArgumentWord::Text(0)
 }

@@ -12,9 +12,10 @@ use lib.ListN.{length, get_or, drop, length-drop}
 use lib.Seq.{length-take-le}
 use mir.Syntax.{w32}
 use mir.Val.{to_z, of_z, hbits}
-use borrow.Author.Tests.{le-leb, lt-leb, leb-true, leb-false, eq-eqb, ne_eqb}
-use Rattle.base.specs.Scan.{scan, every}
-use Rattle.base.proofs.ScanLaws.{every_at, every_all, scan_start, scan_step, scan_hit, scan_end}
+use borrow.Author.Tests.{le-leb, lt-leb, leb-true, leb-false}
+use Rattle.std.specs.Bool.{MatchBool}
+use Rattle.std.specs.List.{AllWithin, HoldsAt}
+use Rattle.base.proofs.ScanLaws.{every_at, every_all}
 use Rattle.base.specs.Tabulate.{tabulate}
 use Rattle.base.proofs.TabulateLaws.{tabulate_get_d, each_of}
 use Rattle.signed.proofs.Laws.{again}
@@ -40,36 +41,27 @@ lies_by lent block start n e h = by_test (leb n (lent - start)) refl
     by_test true f = let l : n ≤ lent - start = leb-true _ _ f in sym (le-leb (start + n) (length block) (omega arith))
     by_test false f = let l : lent - start < n = leb-false _ _ f in sym (lt-leb (start + n) (length block) (omega arith))
 
--- ---- a test of every argument, a place a turn
-
-abbrev pub test_at : (Operand → Bool) → List Argument → ℕ → Bool
-test_at ok xs i = ok (get_or xs i (record { operand = O.Number (pos 0) })).operand
-
--- the arguments before i pass
-abbrev pub Passed : (Operand → Bool) → List Argument → ℕ → Type 0
-Passed ok xs i = scan (test_at ok xs) 0 (length xs) ≡ scan (test_at ok xs) i (length xs - i)
-
-pub passed_start : (ok : Operand → Bool) (xs : List Argument) → Passed ok xs 0
-passed_start ok xs = scan_start (test_at ok xs) (length xs)
-
-pub passed_next : (ok : Operand → Bool) (xs : List Argument) (i : ℕ) → Passed ok xs i → i < length xs → test_at ok xs i ≡ true → Passed ok xs (i + 1)
-passed_next ok xs i p h t = p ∙ scan_step (test_at ok xs) i (length xs) t h
-
-pub passed_not : (ok : Operand → Bool) (xs : List Argument) (i : ℕ) → Passed ok xs i → i < length xs → test_at ok xs i ≡ false → false ≡ each_passes ok xs
-passed_not ok xs i p h t =
-    let e : scan (test_at ok xs) 0 (length xs) ≡ i = p ∙ scan_hit (test_at ok xs) i (length xs) t h in
-    sym (ne_eqb (scan (test_at ok xs) 0 (length xs)) (length xs) (λ f. omega arith))
-
-pub passed_all : (ok : Operand → Bool) (xs : List Argument) (i : ℕ) → Passed ok xs i → i ≡ length xs → true ≡ each_passes ok xs
-passed_all ok xs i p h =
-    let e : scan (test_at ok xs) 0 (length xs) ≡ i = p ∙ scan_end (test_at ok xs) i (length xs) (omega arith) in
-    sym (eq-eqb _ _ (e ∙ h))
-
--- ---- what the tests leave
+-- ---- a test of every argument
 
 -- stands for an argument where there is none
 abbrev no_argument : Argument
 no_argument = record { operand = O.Number (pos 0) }
+
+abbrev pub test_at : (Operand → Bool) → List Argument → ℕ → Bool
+test_at ok xs i = ok (get_or xs i no_argument).operand
+
+-- what `all` answers
+pub all_passes : (ok : Operand → Bool) (xs : List Argument) (r : Bool)
+    → MatchBool r (AllWithin (λ (a : Argument). ok a.operand ≡ true) xs 0 (length xs)) ((k : ℕ) × (k < length xs) × HoldsAt (λ (a : Argument). ok a.operand ≡ false) xs k)
+    → r ≡ each_passes ok xs
+all_passes ok xs true h = sym (every_all (test_at ok xs) (length xs) (λ i l. h i no_argument (omega arith) l))
+all_passes ok xs false h = by_test (each_passes ok xs) refl
+  where
+    by_test : (t : Bool) → each_passes ok xs ≡ t → false ≡ t
+    by_test true e = let f : test_at ok xs h.0 ≡ true = every_at (test_at ok xs) (length xs) h.0 e h.1 in sym (h.2 no_argument) ∙ f
+    by_test false e = refl
+
+-- ---- what the tests leave
 
 judged : (lent : List ℕ) (o : Operand) → lies_in lent o ≡ true → is_short o ≡ true → Judged lent o
 judged lent (O.Number v) l s = tt

@@ -40,32 +40,14 @@ fn is_short(operand: Operand) -> bool
 pub fn all_lie_in(arguments: [Argument; 9], lent: usize) -> bool
     ensures { (block : List ℕ) → lent ≡ length block → result ≡ each_passes (lies_in block) arguments }
 {
-    let mut i: usize = 0;
-    while i < 9 { // used or not
-        let a = arguments[i];
-        let operand = a.operand;
-        if !lies_in(operand, lent) {
-            return false;
-        }
-        i += 1;
-    }
-    true
+    arguments.iter().all(|a| lies_in(a.operand, lent)) // used or not
 }
 
 // Whether no text is longer than a text may be.
 pub fn all_short(arguments: [Argument; 9]) -> bool
     ensures { result ≡ each_passes is_short arguments }
 {
-    let mut i: usize = 0;
-    while i < 9 {
-        let a = arguments[i];
-        let operand = a.operand;
-        if !is_short(operand) {
-            return false;
-        }
-        i += 1;
-    }
-    true
+    arguments.iter().all(|a| is_short(a.operand))
 }
 
 fn number(v: i32) -> Argument

@@ -1,6 +1,7 @@
 -- What stands at the position that a file's refusal gives, and that it is the first bad one (document 02, 2026-05).
 -- Assumes nothing.
 use Rattle.std.specs.Prelude.{◌≡◌, Bool, ◌&&◌, List, [], ◌∷◌, ℕ, ◌+◌, ◌-◌, ◌/◌, ◌<◌, ◌≤◌, ltb, leb, length, get_or}
+use Rattle.std.specs.Prelude.{Option, Some, None}
 use Rattle.std.proofs.Math.Path.{refl}
 use Rattle.std.proofs.Common.{sym, ap, subst, ◌∙◌, arith}
 use Rattle.std.proofs.Math.Bool.{true, false}
@@ -27,18 +28,18 @@ use Rattle.bad_slots.specs.declared.BadSlot.TheVariants as B
 abbrev pub boolean_or_pad : Sizes → ℕ → BadSlot
 boolean_or_pad s i = when ltb i s.booleans then B.Slot K.Boolean (place i) else B.Pad
 
-abbrev pub bad_slot_of : Sizes → FileRefusal → BadSlot
-bad_slot_of s R.Length = B.None
-bad_slot_of s R.Magic = B.None
-bad_slot_of s R.Counts = B.None
-bad_slot_of s (R.Names at) = B.None
-bad_slot_of s (R.Boolean at) = boolean_or_pad s (at - booleans_at s)
-bad_slot_of s (R.Number at) = B.Slot K.Number (place ((at - numbers_at s) / number_width))
-bad_slot_of s (R.Slot at) = B.Slot K.String (place ((at - strings_at s) / offset_width))
+abbrev pub bad_slot_of : Sizes → FileRefusal → Option BadSlot
+bad_slot_of s R.Length = None
+bad_slot_of s R.Magic = None
+bad_slot_of s R.Counts = None
+bad_slot_of s (R.Names at) = None
+bad_slot_of s (R.Boolean at) = Some (boolean_or_pad s (at - booleans_at s))
+bad_slot_of s (R.Number at) = Some (B.Slot K.Number (place ((at - numbers_at s) / number_width)))
+bad_slot_of s (R.Slot at) = Some (B.Slot K.String (place ((at - strings_at s) / offset_width)))
 
--- by the sizes in the file's header
-abbrev pub bad_slot_at : List ℕ → FileRefusal → BadSlot
-bad_slot_at f r = when ltb (length f) header_size then B.None else bad_slot_of (sizes_of f) r
+-- by the sizes in the file's header; none of a file that is too short for one
+abbrev pub bad_slot_at : List ℕ → FileRefusal → Option BadSlot
+bad_slot_at f r = when ltb (length f) header_size then None else bad_slot_of (sizes_of f) r
 
 -- a slot of the file that holds an offset below the table size
 unfoldable pub holds_offset : List ℕ → ℕ → Bool
@@ -70,20 +71,20 @@ module _ (f : List ℕ) (at : ℕ) where
     five = first_bad 5 (omega arith) q
 
     pub boolean_slot : five.index < s.booleans
-        → bad_slot_at f (R.Boolean at) ≡ B.Slot K.Boolean (place five.index)
+        → bad_slot_at f (R.Boolean at) ≡ Some (B.Slot K.Boolean (place five.index))
     boolean_slot h =
         let p = five.position in
         let e : at - booleans_at s ≡ five.index = omega arith in
         rw (long five (omega arith), e, lt-ltb five.index s.booleans h)
 
-    pub pad_slot : s.booleans ≤ five.index → bad_slot_at f (R.Boolean at) ≡ B.Pad
+    pub pad_slot : s.booleans ≤ five.index → bad_slot_at f (R.Boolean at) ≡ Some B.Pad
     pad_slot h =
         let p = five.position in
         let e : at - booleans_at s ≡ five.index = omega arith in
         rw (long five (omega arith), e, le-ltb five.index s.booleans h)
 
   pub number_slot : (q : reading f ≡ refused 6 (at ∷ []))
-      → bad_slot_at f (R.Number at) ≡ B.Slot K.Number (place (first_bad 6 (omega arith) q).index)
+      → bad_slot_at f (R.Number at) ≡ Some (B.Slot K.Number (place (first_bad 6 (omega arith) q).index))
   number_slot q =
       let b = first_bad 6 (omega arith) q in
       let p = b.position in
@@ -94,7 +95,7 @@ module _ (f : List ℕ) (at : ℕ) where
     abbrev seven : FirstBad f (table_of f s 7) at
     seven = first_bad 7 (omega arith) q
 
-    pub string_slot : bad_slot_at f (R.Slot at) ≡ B.Slot K.String (place seven.index)
+    pub string_slot : bad_slot_at f (R.Slot at) ≡ Some (B.Slot K.String (place seven.index))
     string_slot =
         let p = seven.position in
         let e : (at - strings_at s) / offset_width ≡ seven.index = omega arith in

@@ -11,10 +11,8 @@ ghost use Rattle.bad_slots.specs.Slots.{boolean_or_pad, bad_slot_of, bad_slot_at
 use edition::{Kind, Place};
 use entry::{FileRefusal, HEADER_SIZE, NUMBER_WIDTH, OFFSET_WIDTH, Sizes};
 
-#[derive(Clone, Copy)]
+#[derive(Clone, Copy, PartialEq, Eq)]
 pub enum BadSlot {
-    // 1 to 4 are of no slot
-    None,
     Pad,
     Slot(Kind, Place),
 }
@@ -29,34 +27,35 @@ fn boolean_slot(s: Sizes, index: usize) -> BadSlot
     BadSlot::Pad
 }
 
-fn slot_of(s: Sizes, why: FileRefusal) -> BadSlot
+// 1 to 4 are of no slot.
+fn slot_of(s: Sizes, why: FileRefusal) -> Option<BadSlot>
     requires { Shorts s }
     ensures { result ≡ bad_slot_of s why }
 {
     let t = read::tables_for(s);
     match why {
-        FileRefusal::Length => BadSlot::None,
-        FileRefusal::Magic => BadSlot::None,
-        FileRefusal::Counts => BadSlot::None,
-        FileRefusal::Names(_) => BadSlot::None,
-        FileRefusal::Boolean(at) => boolean_slot(s, read::past(at, t.booleans_at)),
+        FileRefusal::Length => None,
+        FileRefusal::Magic => None,
+        FileRefusal::Counts => None,
+        FileRefusal::Names(_) => None,
+        FileRefusal::Boolean(at) => Some(boolean_slot(s, at.saturating_sub(t.booleans_at))),
         FileRefusal::Number(at) => {
-            let index = read::past(at, t.numbers_at) / NUMBER_WIDTH;
-            BadSlot::Slot(Kind::Number, Place(index))
+            let index = at.saturating_sub(t.numbers_at) / NUMBER_WIDTH;
+            Some(BadSlot::Slot(Kind::Number, Place(index)))
         }
         FileRefusal::Slot(at) => {
-            let index = read::past(at, t.strings_at) / OFFSET_WIDTH;
-            BadSlot::Slot(Kind::String, Place(index))
+            let index = at.saturating_sub(t.strings_at) / OFFSET_WIDTH;
+            Some(BadSlot::Slot(Kind::String, Place(index)))
         }
     }
 }
 
 // What stands at the position of a refusal of the file.
-pub fn slot_at(file: &[u8], why: FileRefusal) -> BadSlot
+pub fn slot_at(file: &[u8], why: FileRefusal) -> Option<BadSlot>
     ensures { result ≡ bad_slot_at file.now why }
 {
     if file.len() < HEADER_SIZE {
-        return BadSlot::None;
+        return None;
     }
     slot_of(read::sizes(file), why)
 }

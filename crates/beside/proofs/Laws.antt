@@ -2,7 +2,7 @@
 -- Assumes nothing.
 use mathlib.Core.Path.{◌≡◌, refl, ap, ◌∙◌}
 use mathlib.Core.List.{List, ◌++◌, append_assoc}
-use Prim.Native.Nat.{ℕ, suc, ◌+◌, ◌≤◌}
+use Prim.Native.Nat.{ℕ, zero, suc, ◌+◌, ◌-◌, ◌≤◌, ◌<◌}
 use native.Mathlib.Omega.{arith}
 use lib.ListN.{length, get_or, take, drop, length-append}
 use lib.Seq.{take_at}
@@ -14,25 +14,31 @@ use Rattle.names.specs.Names.{ascii}
 use Rattle.beside.specs.Beside.{folder_in, beside}
 use Rattle.shown.proofs.PutsLaws.{counted}
 
--- end is the folder's length in the first i bytes
-abbrev pub Folder : List ℕ → ℕ → ℕ → Type 0
-Folder p i end = (end ≡ folder_in p i) × (end ≤ i)
+-- ---- the last slash
 
-pub folder_start : (p : List ℕ) → Folder p 0 0
+-- no slash stands from a place on
+pub folder_stays : (p : List ℕ) (i n : ℕ) → ((k : ℕ) → i ≤ k → k < i + n → get_or p k 0 ≡ 47 → ⊥) → folder_in p i ≡ folder_in p (i + n)
 unfolding folder_in
-folder_start p = (refl, omega arith)
+folder_stays p i zero h = ap (folder_in p) (omega arith)
+folder_stays p i (suc n) h =
+    let e : i + suc n ≡ suc (i + n) = omega arith in
+    rw (e, ne_eqb (get_or p (i + n) 0) 47 (h (i + n) (omega arith) (omega arith))) (folder_stays p i n (λ k l m. h k l (omega arith)))
 
-pub folder_slash : (p : List ℕ) (i : ℕ) → get_or p i 0 ≡ 47 → i + 1 ≡ folder_in p (i + 1)
+-- the place i has the last slash
+pub folder_at : (p : List ℕ) (i : ℕ) → i < length p → get_or p i 0 ≡ 47 → ((k : ℕ) → i + 1 ≤ k → k < length p → get_or p k 0 ≡ 47 → ⊥)
+    → i + 1 ≡ folder_in p (length p)
 unfolding folder_in
-folder_slash p i e =
-    let n : i + 1 ≡ suc i = omega arith in
-    rw (n, eq-eqb (get_or p i 0) 47 e) refl
+folder_at p i l e h =
+    let n : ℕ = length p - (i + 1) in
+    let q : (i + 1) + n ≡ length p = omega arith in
+    let s : i + 1 ≡ suc i = omega arith in
+    let here : i + 1 ≡ folder_in p (i + 1) = rw (s, eq-eqb (get_or p i 0) 47 e) refl in
+    here ∙ folder_stays p (i + 1) n (λ k a b. h k a (omega arith)) ∙ ap (folder_in p) q
 
-pub folder_other : (p : List ℕ) (i end : ℕ) → end ≡ folder_in p i → (get_or p i 0 ≡ 47 → ⊥) → end ≡ folder_in p (i + 1)
+-- no place has one
+pub folder_none : (p : List ℕ) → ((k : ℕ) → k < length p → get_or p k 0 ≡ 47 → ⊥) → 0 ≡ folder_in p (length p)
 unfolding folder_in
-folder_other p i end f e =
-    let n : i + 1 ≡ suc i = omega arith in
-    rw (n, ne_eqb (get_or p i 0) 47 e) f
+folder_none p h = folder_stays p 0 (length p) (λ k a b. h k (omega arith)) ∙ ap (folder_in p) (omega arith)
 
 pub name_made : (path number b b₁ b₂ b₃ : List ℕ) (end : ℕ) → end ≡ folder_in path (length path) → IsPrefixLen end path → length path + length number + 4 ≤ length b
     → b₁ ≡ put_at b 0 (take end path) → b₂ ≡ put_at b₁ end (ascii ".ti-") → b₃ ≡ put_at b₂ (end + 4) number

@@ -6,33 +6,15 @@ ghost use Rattle.std.specs.Prelude.{◌≡◌, ◌+◌, ◌<◌, ◌≤◌, leng
 ghost use Rattle.io.specs.Counts.{IsPrefixLen};
 ghost use Rattle.beside.specs.Beside.{folder_in, beside};
 
-// The length of a path's first bytes up to their last slash, with it, by that of one byte less.
-#[tactic(auto, using(crate::proofs::Laws::folder_slash, crate::proofs::Laws::folder_other))]
-fn behind(path: &[u8], i: usize, end: usize) -> usize
-    requires inside { i < length path.now }
-    requires before { end ≡ folder_in path.now i }
-    requires few { end ≤ i }
-    ensures value { result ≡ folder_in path.now (i + 1) }
-    ensures few { result ≤ i + 1 }
-{
-    if path[i] == b'/' {
-        return i + 1;
-    }
-    end
-}
-
 // The length of the path up to its last slash, with it.
 fn folder(path: &[u8]) -> usize
     ensures value { result ≡ folder_in path.now (length path.now) }
     ensures prefix_len { IsPrefixLen result path.now }
 {
-    let mut i = 0;
-    let mut end = 0;
-    while i < path.len() {
-        end = behind(path, i, end);
-        i += 1;
+    match path.iter().rposition(|c| *c == b'/') {
+        Some(i) => i + 1,
+        None => 0,
     }
-    end
 }
 
 // Puts the name of a temporary file in the path's folder at the start of name, and answers its length.

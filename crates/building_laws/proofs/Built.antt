@@ -13,9 +13,9 @@ use Rattle.edition.specs.declared.Edition.{Edition}
 use Rattle.entry.specs.Limits.{given_names_most}
 use Rattle.entry.specs.Reading.{Entry}
 use Rattle.text.specs.Heading.{names_to}
-use Rattle.text.specs.Describing.{described, bare, Description, description}
+use Rattle.text.specs.Describing.{bare, Description, description}
 use Rattle.text.specs.Building.{description_at, uses_of}
-use Rattle.text.specs.Building.{own_of, outcome, totals, Wanted, named}
+use Rattle.text.specs.Building.{own_of, outcome, totals, Wanted}
 use Rattle.text.specs.Building.{building_text}
 use Rattle.text_laws.specs.JudgingLaws.{refused_gives}
 use Rattle.text_laws.specs.HeadingLaws.{names_free_lem, names_some, header_right}

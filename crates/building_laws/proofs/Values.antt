@@ -1,7 +1,7 @@
 -- The refusals of a text are 10, 11, 13, 18, 19 and 20, and the places that they give are no further than its end:
 -- of a field, of a description, of a text and of the call.
 -- Assumes nothing.
-use Rattle.std.specs.Prelude.{◌≡◌, Bool, not, ◌⊎◌, eqb, leb, take, drop}
+use Rattle.std.specs.Prelude.{◌≡◌, Bool, not, ◌⊎◌, eqb, leb, take, drop, Option, Some, None, Result, Ok, Err}
 use Rattle.std.proofs.Math.Path.{refl}
 use Rattle.std.proofs.Common.{sym, subst, inl, inr, leb-true, eqb-true}
 use Rattle.std.proofs.Math.Bool.{true, false}
@@ -29,9 +29,8 @@ use Rattle.uses.proofs.Related.{built_refusals}
 use Rattle.text.specs.declared.FieldForm.{FieldForm}
 use Rattle.text.specs.declared.FieldForm.TheVariants as F
 use Rattle.text.specs.declared.Field.{Field}
-use Rattle.text.specs.declared.Field.TheVariants as G
-use Rattle.text.specs.declared.Header.{Header}
-use Rattle.text.specs.declared.Header.TheVariants as H
+use Rattle.text.specs.declared.TextRefusal.{TextRefusal}
+use Rattle.text.specs.declared.TextRefusal.TheVariants.{Malformed, Limit}
 use Rattle.text.specs.declared.Line.{Line}
 use Rattle.text.specs.declared.Line.TheVariants.{End, Column, Indented}
 use Rattle.text.specs.Bytes.{text_most}
@@ -46,9 +45,9 @@ use Rattle.text.specs.Describing.{with_later, headed, descriptions_at, begun, de
 use Rattle.text.specs.Building.{Having, nobody, numbered, having, UseAt, with_use, uses_in, found_as, description_at}
 use Rattle.text.specs.Building.{uses_of, over_in, own_of, outcome, totals, Wanted, first, named, wanted_as, wanted_in}
 use Rattle.text.specs.Building.{building, building_text}
-use Rattle.text.specs.Compiling.{fitted, compiling}
+use Rattle.text.specs.Compiling.{fitted, compiling, text_number}
 use Rattle.text_laws.specs.LineLaws.{LineAfter, next_after}
-use Rattle.text_laws.specs.HeadingLaws.{header_right}
+use Rattle.text_laws.specs.HeadingLaws.{header_right, header_refusal}
 use Rattle.text_laws.specs.SayingsLaws.{SaidIn, sayings_ind, sayings_said}
 use Rattle.building_laws.specs.Descriptions.{StandsIn, describing_stand}
 use Rattle.building_laws.specs.Values.{FieldNumber, UseNumber, TextNumber, text_not_12, BadAt, At, PlaceWithin, Within, BehindIn, FieldsIn, Bounded, CompilingNumber, Judged}
@@ -106,12 +105,12 @@ string_at_lem t p (F.Number v) = at_11 p
 string_at_lem t p F.LargeNumber = at_11 p
 string_at_lem t p (F.String i n) = length_at p n (present (read_bytes (read_at t i)))
 
-found_at : (t : List ℕ) (p : ℕ) (f : FieldForm) (c : Found) → At p (saying_of t p f c)
+found_at : (t : List ℕ) (p : ℕ) (f : FieldForm) (c : Option Found) → At p (saying_of t p f c)
 unfolding saying_of
-found_at t p f (N.Boolean q) = map_at _ p (boolean_by p f) (boolean_at p f)
-found_at t p f (N.Number q) = map_at _ p (number_by p f) (number_at p f)
-found_at t p f (N.String q) = map_at _ p (string_by t p f) (string_at_lem t p f)
-found_at t p f N.Unknown = at_11 p
+found_at t p f (Some (N.Boolean q)) = map_at _ p (boolean_by p f) (boolean_at p f)
+found_at t p f (Some (N.Number q)) = map_at _ p (number_by p f) (number_at p f)
+found_at t p f (Some (N.String q)) = map_at _ p (string_by t p f) (string_at_lem t p f)
+found_at t p f None = at_11 p
 
 use_at_lem : (t : List ℕ) (p : ℕ) (f : FieldForm) → At p (use_by t p f)
 use_at_lem t p F.Boolean = at_11 p
@@ -137,11 +136,12 @@ judging_at e t p = by_field (field_at t p)
     by_dropped true name f = tt
     by_dropped false name f = named_at_lem e t p name f
 
-    by_field : (f : Field) → At p (judging_of e t p f)
-    by_field (G.Right dropped i k f next) =
-        map_at _ p (when dropped then gives nothing else named_saying e t p (take (k - i) (drop i t)) f)
-        (by_dropped dropped _ f)
-    by_field G.Malformed = at_10 p
+    by_field : (f : Option Field) → At p (judging_of e t p f)
+    by_field (Some f) =
+        map_at _ p
+        (when f.dropped then gives nothing else named_saying e t p (take (f.end - f.name) (drop f.name t)) f.form)
+        (by_dropped f.dropped _ f.form)
+    by_field None = at_10 p
 
 map_within : {A B : Type 0} (N : ℕ → Type 0) (g : A → B) (m : ℕ) (a : Answer A) → Within N m a
     → Within N m (map_answer g a)
@@ -173,15 +173,26 @@ module _ (e : Edition) (t : List ℕ) where
     in_13 : PlaceWithin FieldNumber (length t) 13 (p ∷ [])
     in_13 = (inr (inr refl), (l, refl))
 
+    -- a header's refusal
+    in_header : (i : ℕ) (r : TextRefusal) → header_at t i ≡ Err r
+        → PlaceWithin FieldNumber (length t) (text_number r) (p ∷ [])
+    in_header i r q = by_refusal (header_refusal t i r q)
+      where
+        by_refusal : (r ≡ Malformed) ⊎ (r ≡ Limit) → PlaceWithin FieldNumber (length t) (text_number r) (p ∷ [])
+        by_refusal (inl h) =
+            subst (λ (x : TextRefusal). PlaceWithin FieldNumber (length t) (text_number x) (p ∷ [])) (sym h) in_10
+        by_refusal (inr h) =
+            subst (λ (x : TextRefusal). PlaceWithin FieldNumber (length t) (text_number x) (p ∷ [])) (sym h) in_13
+
   descriptions_within : (more p i : ℕ) → p ≤ length t → Within FieldNumber (length t) (descriptions_at e t more p i)
   unfolding descriptions_at
-  descriptions_within zero p i l = by_header (header_at t i)
+  descriptions_within zero p i l = by_header (header_at t i) refl
     where
-      by_header : (h : Header) → Within FieldNumber (length t) (one_too_many p h)
-      by_header (H.Right c) = in_13 p l
-      by_header H.Malformed = in_10 p l
-      by_header H.LongAlias = in_13 p l
-  descriptions_within (suc more) p i l = by_header (header_at t i) (λ j k. descriptions_within more j j (omega arith))
+      by_header : (h : Result ℕ TextRefusal) → header_at t i ≡ h → Within FieldNumber (length t) (one_too_many p h)
+      by_header (Ok c) q = in_13 p l
+      by_header (Err r) q = in_header p l i r q
+  descriptions_within (suc more) p i l =
+      by_header (header_at t i) refl (λ j k. descriptions_within more j j (omega arith))
     where
       later : ℕ → Answer (List Description)
       later j = descriptions_at e t more j j
@@ -200,10 +211,10 @@ module _ (e : Edition) (t : List ℕ) where
       by_fields n (gives f) k rest =
           map_within FieldNumber _ (length t) (behind_fields later f.behind) (behind f.behind k rest)
 
-      by_header : (h : Header) → Later → Within FieldNumber (length t) (headed e t later p i h)
-      by_header (H.Right c) rest = by_fields (names_to t i c) (sayings_from e t (c + 1)) (fields_in (c + 1)) rest
-      by_header H.Malformed rest = in_10 p l
-      by_header H.LongAlias rest = in_13 p l
+      by_header : (h : Result ℕ TextRefusal) → header_at t i ≡ h → Later
+          → Within FieldNumber (length t) (headed e t later p i h)
+      by_header (Ok c) q rest = by_fields (names_to t i c) (sayings_from e t (c + 1)) (fields_in (c + 1)) rest
+      by_header (Err r) q rest = in_header p l i r q
 
   pub describing_within : Within FieldNumber (length t) (describing e t)
   unfolding describing

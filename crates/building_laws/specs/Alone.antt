@@ -1,6 +1,6 @@
 -- A text of one description, without `use`, gives what document 01's lines give.
 -- Assumes nothing.
-use Rattle.std.specs.Prelude.{◌≡◌, Bool, true, false, not, ℕ, ◌+◌, leb, length}
+use Rattle.std.specs.Prelude.{◌≡◌, Bool, true, false, not, ℕ, ◌+◌, leb, length, Result, Ok, Err}
 use Rattle.std.proofs.Math.Path.{refl, ap}
 use Rattle.std.proofs.Common.{sym, ◌∙◌}
 use mathlib.Core.List.{List, [], ◌∷◌, map}
@@ -12,8 +12,7 @@ use Rattle.entry.specs.Limits.{given_names_most}
 use Rattle.entry.specs.Reading.{Entry}
 use Rattle.entry.specs.Writing.{encode, fitting}
 use Rattle.uses.specs.Walk.{uses_most, bind, with_uses, brought}
-use Rattle.text.specs.declared.Header.{Header}
-use Rattle.text.specs.declared.Header.TheVariants as H
+use Rattle.text.specs.declared.TextRefusal.{TextRefusal}
 use Rattle.text.specs.declared.Line.{Line}
 use Rattle.text.specs.declared.Line.TheVariants.{End, Column, Indented}
 use Rattle.text.specs.Bytes.{text_most}
@@ -24,7 +23,7 @@ use Rattle.text.specs.Describing.{description, behind_fields, with_later, headed
 use Rattle.text.specs.Building.{has_name, having_from, having, UseAt, uses_in, found_as}
 use Rattle.text.specs.Building.{uses_of, over_in, own_of, outcome}
 use Rattle.text.specs.Building.{totals, Wanted, first, named, wanted_in, building, building_text}
-use Rattle.text.specs.Compiling.{fitted, compiling, fitting_named}
+use Rattle.text.specs.Compiling.{fitted, compiling, fitting_named, text_number}
 use Rattle.building_laws.specs.Over.{described_names}
 
 -- ---- document 01
@@ -35,10 +34,9 @@ fitted_named room (refused n v) = refused n v
 fitted_named room (gives x) = fitting_named room x
 
 -- the header that starts at i, then the fields behind it
-abbrev pub headed01 : Edition → List ℕ → ℕ → Header → Answer Entry
-headed01 e t i (H.Right c) = described_from e t (c + 1) (bare e (names_to t i c))
-headed01 e t i H.Malformed = refused 10 (0 ∷ [])
-headed01 e t i H.LongAlias = refused 13 (0 ∷ [])
+abbrev pub headed01 : Edition → List ℕ → ℕ → Result ℕ TextRefusal → Answer Entry
+headed01 e t i (Ok c) = described_from e t (c + 1) (bare e (names_to t i c))
+headed01 e t i (Err r) = refused (text_number r) (0 ∷ [])
 
 abbrev pub begun01 : Edition → List ℕ → Line → Answer Entry
 begun01 e t End = refused 10 (0 ∷ [])
@@ -57,9 +55,9 @@ document01 e t room =
 
 -- the fields behind its header, where all of them are right, end the text, and none of them is a `use`
 pub record Alone (e : Edition) (t : List ℕ) : Type 0 where
-  pub last : (i c : ℕ) (f : Fields) → line_at t 0 ≡ Column i → header_at t i ≡ H.Right c
+  pub last : (i c : ℕ) (f : Fields) → line_at t 0 ≡ Column i → header_at t i ≡ Ok c
       → sayings_from e t (c + 1) ≡ gives f → f.behind ≡ End
-  pub unused : (i c : ℕ) (f : Fields) → line_at t 0 ≡ Column i → header_at t i ≡ H.Right c
+  pub unused : (i c : ℕ) (f : Fields) → line_at t 0 ≡ Column i → header_at t i ≡ Ok c
       → sayings_from e t (c + 1) ≡ gives f → uses_in f.sayings ≡ []
 
 -- the header's names have the wanted name
@@ -128,22 +126,21 @@ module _ (e : Edition) (t : List ℕ) (w : Wanted) where
     abbrev later : ℕ → Answer (List Description)
     later j = descriptions_at e t 63 j j
 
-    from_header : (h : Header) → header_at t i ≡ h → building_text e t w ≡ bind (headed e t later 0 i h) (building e w)
+    from_header : (h : Result ℕ TextRefusal) → header_at t i ≡ h
+        → building_text e t w ≡ bind (headed e t later 0 i h) (building e w)
     unfolding descriptions_at
     from_header h r =
-        from_line (Column i) q ∙ ap (λ (k : Header). bind (headed e t later 0 i k) (building e w)) r
+        from_line (Column i) q ∙ ap (λ (k : Result ℕ TextRefusal). bind (headed e t later 0 i k) (building e w)) r
 
-    pub alone_malformed : header_at t i ≡ H.Malformed → building_text e t w ≡ refused 10 (0 ∷ [])
-    alone_malformed r = from_header H.Malformed r
+    pub alone_bad : (why : TextRefusal) → header_at t i ≡ Err why
+        → building_text e t w ≡ refused (text_number why) (0 ∷ [])
+    alone_bad why r = from_header (Err why) r
 
-    pub alone_long : header_at t i ≡ H.LongAlias → building_text e t w ≡ refused 13 (0 ∷ [])
-    alone_long r = from_header H.LongAlias r
-
-    module _ (c : ℕ) (r : header_at t i ≡ H.Right c) where
+    module _ (c : ℕ) (r : header_at t i ≡ Ok c) where
       from_fields : (a : Answer Fields) → sayings_from e t (c + 1) ≡ a
           → building_text e t w ≡ bind (with_later later 0 (names_to t i c) a) (building e w)
       from_fields a s =
-          from_header (H.Right c) r
+          from_header (Ok c) r
           ∙ ap (λ (k : Answer Fields). bind (with_later later 0 (names_to t i c) k) (building e w)) s
 
       pub alone_refused : (n : ℕ) (v : List ℕ) → sayings_from e t (c + 1) ≡ refused n v
@@ -175,7 +172,7 @@ alone_compiles e t room m =
     ap (λ (a : Answer (List ℕ)). when not (ok_edition e) then refused 3 []
     else when not (leb (length t) text_most) then refused 1 [] else a) (by_line (line_at t 0) refl)
   where
-    by_fields : (i c : ℕ) → line_at t 0 ≡ Column i → header_at t i ≡ H.Right c → (a : Answer Fields)
+    by_fields : (i c : ℕ) → line_at t 0 ≡ Column i → header_at t i ≡ Ok c → (a : Answer Fields)
         → sayings_from e t (c + 1) ≡ a
         → fitted room (building_text e t first)
         ≡ fitted_named room (map_answer (λ (f : Fields). described (bare e (names_to t i c)) f.sayings) a)
@@ -183,11 +180,10 @@ alone_compiles e t room m =
     by_fields i c q r (gives f) s =
         alone_gives e t first i q c r f s (m.last i c f q r s) (m.unused i c f q r s) tt room
 
-    by_header : (i : ℕ) → line_at t 0 ≡ Column i → (h : Header) → header_at t i ≡ h
+    by_header : (i : ℕ) → line_at t 0 ≡ Column i → (h : Result ℕ TextRefusal) → header_at t i ≡ h
         → fitted room (building_text e t first) ≡ fitted_named room (headed01 e t i h)
-    by_header i q (H.Right c) r = by_fields i c q r (sayings_from e t (c + 1)) refl
-    by_header i q H.Malformed r = ap (fitted room) (alone_malformed e t first i q r)
-    by_header i q H.LongAlias r = ap (fitted room) (alone_long e t first i q r)
+    by_header i q (Ok c) r = by_fields i c q r (sayings_from e t (c + 1)) refl
+    by_header i q (Err why) r = ap (fitted room) (alone_bad e t first i q why r)
 
     by_line : (l : Line) → line_at t 0 ≡ l → fitted room (building_text e t first) ≡ fitted_named room (begun01 e t l)
     by_line End q = ap (fitted room) (alone_none e t first q)

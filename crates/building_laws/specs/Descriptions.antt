@@ -1,14 +1,13 @@
 -- The descriptions of a text: each of them stands in the text, and there is one at least.
 -- Assumes nothing.
-use Rattle.std.specs.Prelude.{◌≡◌, List, [], ◌∷◌, length}
+use Rattle.std.specs.Prelude.{◌≡◌, List, [], ◌∷◌, length, Result, Ok, Err}
 use Rattle.std.proofs.Math.Path.{refl}
 use Rattle.std.proofs.Common.{subst, arith}
 use Prim.Native.Nat.{ℕ, zero, suc, ◌+◌, ◌≤◌, ◌<◌}
 use Rattle.base.specs.Tabulate.{Each}
 use Rattle.base.specs.Answer.{Answer, refused, gives, map_answer}
 use Rattle.edition.specs.declared.Edition.{Edition}
-use Rattle.text.specs.declared.Header.{Header}
-use Rattle.text.specs.declared.Header.TheVariants as H
+use Rattle.text.specs.declared.TextRefusal.{TextRefusal}
 use Rattle.text.specs.declared.Line.{Line}
 use Rattle.text.specs.declared.Line.TheVariants.{End, Column, Indented}
 use Rattle.text.specs.Lines.{line_at}
@@ -22,7 +21,7 @@ pub record StandsIn (e : Edition) (t : List ℕ) (d : Description) : Type 0 wher
   -- the header's first byte and its comma
   pub at : ℕ
   pub comma : ℕ
-  pub header : header_at t at ≡ H.Right comma
+  pub header : header_at t at ≡ Ok comma
   pub names : d.names ≡ names_to t at comma
   pub fields : Fields
   pub read : sayings_from e t (comma + 1) ≡ gives fields
@@ -35,7 +34,7 @@ AllStand e t ds = Each (StandsIn e t) ds × (0 < length ds)
 
 module _ (e : Edition) (t : List ℕ) where
   -- one more, in front of those that stand in the text
-  with_stand : (p i c : ℕ) (f : Fields) → p ≤ i → header_at t i ≡ H.Right c → sayings_from e t (c + 1) ≡ gives f
+  with_stand : (p i c : ℕ) (f : Fields) → p ≤ i → header_at t i ≡ Ok c → sayings_from e t (c + 1) ≡ gives f
       → (a : Answer (List Description)) → ((ds : List Description) → a ≡ gives ds → Each (StandsIn e t) ds)
       → (ds : List Description)
       → map_answer (λ (ds : List Description). description p (names_to t i c) f.sayings ∷ ds) a ≡ gives ds
@@ -64,10 +63,9 @@ module _ (e : Edition) (t : List ℕ) where
   unfolding descriptions_at
   descriptions_at_lem zero p i l ds w = by_header (header_at t i) w
     where
-      by_header : (h : Header) → one_too_many p h ≡ gives ds → AllStand e t ds
-      by_header (H.Right c) u = refused_gives u
-      by_header H.Malformed u = refused_gives u
-      by_header H.LongAlias u = refused_gives u
+      by_header : (h : Result ℕ TextRefusal) → one_too_many p h ≡ gives ds → AllStand e t ds
+      by_header (Ok c) u = refused_gives u
+      by_header (Err r) u = refused_gives u
   descriptions_at_lem (suc more) p i l ds w =
       by_header (header_at t i) refl w (λ j xs u. (descriptions_at_lem more j j (omega arith) xs u).0)
     where
@@ -86,16 +84,16 @@ module _ (e : Edition) (t : List ℕ) where
       behind (Column j) rest xs u = rest j xs u
       behind (Indented j) rest xs u = none xs u
 
-      by_fields : (c : ℕ) → header_at t i ≡ H.Right c → (a : Answer Fields) → sayings_from e t (c + 1) ≡ a
+      by_fields : (c : ℕ) → header_at t i ≡ Ok c → (a : Answer Fields) → sayings_from e t (c + 1) ≡ a
           → with_later later p (names_to t i c) a ≡ gives ds → Later → AllStand e t ds
       by_fields c q (refused n v) r u rest = refused_gives u
       by_fields c q (gives f) r u rest =
           with_stand p i c f l q r (behind_fields later f.behind) (behind f.behind rest) ds u
 
-      by_header : (h : Header) → header_at t i ≡ h → headed e t later p i h ≡ gives ds → Later → AllStand e t ds
-      by_header (H.Right c) q u rest = by_fields c q (sayings_from e t (c + 1)) refl u rest
-      by_header H.Malformed q u rest = refused_gives u
-      by_header H.LongAlias q u rest = refused_gives u
+      by_header : (h : Result ℕ TextRefusal) → header_at t i ≡ h → headed e t later p i h ≡ gives ds → Later
+          → AllStand e t ds
+      by_header (Ok c) q u rest = by_fields c q (sayings_from e t (c + 1)) refl u rest
+      by_header (Err r) q u rest = refused_gives u
 
   describing_all : (ds : List Description) → describing e t ≡ gives ds → AllStand e t ds
   unfolding describing

@@ -13,46 +13,48 @@ use Rattle.base.specs.If.{when◌then◌else◌}
 use Rattle.base.specs.Answer.{Answer, refused, map_answer, number_of}
 use Rattle.expansion.specs.Limits.{string_most, expansion_most}
 use Rattle.expansion.specs.declared.Argument.{Argument}
-use Rattle.expansion.specs.declared.Expansion.{Expansion}
-use Rattle.expansion.specs.declared.Expansion.TheVariants as E
+use Rattle.std.specs.Prelude.{Result, Ok, Err}
+use Rattle.expansion.specs.declared.Output.{Output}
+use Rattle.expansion.specs.declared.ExpansionRefusal.{ExpansionRefusal}
+use Rattle.expansion.specs.declared.ExpansionRefusal.TheVariants as E
 use Rattle.expansion.specs.Form.{form_of}
 use Rattle.expansion.specs.Machine.{run}
 use Rattle.expansion.specs.Arguments.{lies_in, is_short, each_passes, values_of}
 use Rattle.expansion.specs.Expanding.{Expanding, counted, says_expansion, Within, ended, formed, expanding}
 
-within_more : (r : Expansion) (n m room most : ℕ) → n ≤ m → room ≤ most → Within n room r → Within m most r
-within_more (E.Done l k) n m room most h g w = omega arith
-within_more E.Place n m room most h g w = tt
-within_more E.Length n m room most h g w = tt
-within_more (E.Malformed i) n m room most h g w = omega arith
-within_more (E.Empty i) n m room most h g w = omega arith
-within_more (E.Full i) n m room most h g w = omega arith
-within_more (E.Kind i) n m room most h g w = omega arith
-within_more (E.Room l) n m room most h g w = omega arith
+within_more : (r : Result Output ExpansionRefusal) (n m room most : ℕ) → n ≤ m → room ≤ most → Within n room r → Within m most r
+within_more (Ok o) n m room most h g w = omega arith
+within_more (Err E.Place) n m room most h g w = tt
+within_more (Err E.Length) n m room most h g w = tt
+within_more (Err (E.Malformed i)) n m room most h g w = omega arith
+within_more (Err (E.Empty i)) n m room most h g w = omega arith
+within_more (Err (E.Full i)) n m room most h g w = omega arith
+within_more (Err (E.Kind i)) n m room most h g w = omega arith
+within_more (Err (E.Room l)) n m room most h g w = omega arith
 
 -- 17 and 1 give no value
-plain_place : (r : Expansion) (m most : ℕ) → number_of (says_expansion r) ≡ 17 → Within m most r
-plain_place (E.Done l k) m most e = absurd (let z : ⊥ = omega arith in z)
-plain_place E.Place m most e = tt
-plain_place E.Length m most e = tt
-plain_place (E.Malformed i) m most e = absurd (let z : ⊥ = omega arith in z)
-plain_place (E.Empty i) m most e = absurd (let z : ⊥ = omega arith in z)
-plain_place (E.Full i) m most e = absurd (let z : ⊥ = omega arith in z)
-plain_place (E.Kind i) m most e = absurd (let z : ⊥ = omega arith in z)
-plain_place (E.Room l) m most e = absurd (let z : ⊥ = omega arith in z)
+plain_place : (r : Result Output ExpansionRefusal) (m most : ℕ) → number_of (says_expansion r) ≡ 17 → Within m most r
+plain_place (Ok o) m most e = absurd (let z : ⊥ = omega arith in z)
+plain_place (Err E.Place) m most e = tt
+plain_place (Err E.Length) m most e = tt
+plain_place (Err (E.Malformed i)) m most e = absurd (let z : ⊥ = omega arith in z)
+plain_place (Err (E.Empty i)) m most e = absurd (let z : ⊥ = omega arith in z)
+plain_place (Err (E.Full i)) m most e = absurd (let z : ⊥ = omega arith in z)
+plain_place (Err (E.Kind i)) m most e = absurd (let z : ⊥ = omega arith in z)
+plain_place (Err (E.Room l)) m most e = absurd (let z : ⊥ = omega arith in z)
 
-plain_length : (r : Expansion) (m most : ℕ) → number_of (says_expansion r) ≡ 1 → Within m most r
-plain_length (E.Done l k) m most e = absurd (let z : ⊥ = omega arith in z)
-plain_length E.Place m most e = tt
-plain_length E.Length m most e = tt
-plain_length (E.Malformed i) m most e = absurd (let z : ⊥ = omega arith in z)
-plain_length (E.Empty i) m most e = absurd (let z : ⊥ = omega arith in z)
-plain_length (E.Full i) m most e = absurd (let z : ⊥ = omega arith in z)
-plain_length (E.Kind i) m most e = absurd (let z : ⊥ = omega arith in z)
-plain_length (E.Room l) m most e = absurd (let z : ⊥ = omega arith in z)
+plain_length : (r : Result Output ExpansionRefusal) (m most : ℕ) → number_of (says_expansion r) ≡ 1 → Within m most r
+plain_length (Ok o) m most e = absurd (let z : ⊥ = omega arith in z)
+plain_length (Err E.Place) m most e = tt
+plain_length (Err E.Length) m most e = tt
+plain_length (Err (E.Malformed i)) m most e = absurd (let z : ⊥ = omega arith in z)
+plain_length (Err (E.Empty i)) m most e = absurd (let z : ⊥ = omega arith in z)
+plain_length (Err (E.Full i)) m most e = absurd (let z : ⊥ = omega arith in z)
+plain_length (Err (E.Kind i)) m most e = absurd (let z : ⊥ = omega arith in z)
+plain_length (Err (E.Room l)) m most e = absurd (let z : ⊥ = omega arith in z)
 
 -- room: the bytes of output that a string of at most 1,000 bytes has at most
-pub within_most : (s : List ℕ) (arguments : List Argument) (lent : List ℕ) (lasting : List ℤ) (size at room : ℕ) (r : Expansion)
+pub within_most : (s : List ℕ) (arguments : List Argument) (lent : List ℕ) (lasting : List ℤ) (size at room : ℕ) (r : Result Output ExpansionRefusal)
     → (length s ≤ string_most → room ≤ expansion_most)
     → says_expansion r ≡ map_answer counted (expanding s arguments lent lasting size at) → Within (length s) room r → Within string_most expansion_most r
 unfolding expanding

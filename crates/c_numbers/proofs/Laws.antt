@@ -1,5 +1,6 @@
 -- The number of a file's refusal in merging.
 -- Assumes nothing.
+use Rattle.std.specs.Prelude.{Err}
 use mathlib.Core.Path.{◌≡◌}
 use mathlib.Core.List.{◌∷◌}
 use Prim.Native.Nat.{ℕ, ◌+◌, ◌*◌, ◌^◌, ◌≤◌, ◌<◌}
@@ -8,7 +9,7 @@ use borrow.Author.Tests.{le-leb}
 use Rattle.base.specs.Answer.{refused}
 use Rattle.entry.specs.declared.FileRefusal.{FileRefusal}
 use Rattle.entry.specs.declared.FileRefusal.TheVariants as R
-use Rattle.entry.specs.declared.Merged.TheVariants as G
+use Rattle.entry.specs.declared.MergeRefusal.TheVariants as G
 use Rattle.entry.specs.Says.{file_number, file_values, file_position, says_merged}
 use Rattle.c_numbers.specs.Numbers.{merging_number, FileWithin}
 
@@ -27,10 +28,10 @@ module _ (r : FileRefusal) (n : ℕ) (e : n ≡ file_number r * 2 ^ 56 + file_po
   unfolding merging_number
   merged_file_lem k = rw (le-leb (file_number r) 7 (file_most_lem r)) (omega arith)
 
-  pub merged_first : n + 2 ^ 48 ≡ merging_number (λ m. m) (says_merged (G.First r))
+  pub merged_first : n + 2 ^ 48 ≡ merging_number (λ m. m) (says_merged (Err (G.First r)))
   merged_first = let p = merged_file_lem 1 in omega arith
 
-  pub merged_second : n + 2 * 2 ^ 48 ≡ merging_number (λ m. m) (says_merged (G.Second r))
+  pub merged_second : n + 2 * 2 ^ 48 ≡ merging_number (λ m. m) (says_merged (Err (G.Second r)))
   merged_second = merged_file_lem 2
 
   -- the number has 64 bits

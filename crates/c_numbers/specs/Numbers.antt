@@ -1,21 +1,18 @@
 -- Each answer as one 64-bit number (include/terminfo_c.h says the same in words). Assumes nothing.
 use Rattle.std.specs.Prelude.{List, [], ◌∷◌, ℕ, ◌+◌, ◌*◌, ◌^◌, ◌≤◌, ◌<◌, leb, get_or}
+use Rattle.std.specs.Prelude.{Option, Some, None, Result, Ok, Err}
 use Rattle.base.specs.If.{when◌then◌else◌}
 use Rattle.entry.specs.declared.Part.{Part}
 use Rattle.entry.specs.State.{State, absent, cancelled, present}
-use Rattle.entry.specs.declared.Names.{Names}
-use Rattle.entry.specs.declared.Names.TheVariants as M
-use Rattle.entry.specs.declared.StringState.{StringState}
-use Rattle.entry.specs.declared.StringState.TheVariants as S
-use Rattle.entry.specs.declared.Written.{Written}
-use Rattle.entry.specs.declared.Written.TheVariants as W
+use Rattle.entry.specs.declared.State as S
+use Rattle.entry.specs.declared.Opening.{Opening}
 use Rattle.entry.specs.declared.FileRefusal.{FileRefusal}
-use Rattle.entry.specs.declared.Merged.{Merged}
-use Rattle.entry.specs.declared.Merged.TheVariants as G
+use Rattle.entry.specs.declared.WriteRefusal.{WriteRefusal}
+use Rattle.entry.specs.declared.MergeRefusal.{MergeRefusal}
+use Rattle.entry.specs.declared.MergeRefusal.TheVariants as G
 use Rattle.entry.specs.Limits.{file_most}
 use Rattle.base.specs.Answer.{Answer, refused, gives}
-use Rattle.entry.specs.Asking.{Opening}
-use Rattle.entry.specs.Says.{file_position}
+use Rattle.entry.specs.Says.{file_position, write_values}
 use Rattle.edition.specs.declared.Kind.{Kind}
 use Rattle.edition.specs.declared.Kind.TheVariants as K
 use Rattle.edition.specs.declared.Place.{Place}
@@ -98,43 +95,47 @@ counts_code c = c.steps * 2 ^ 24 + c.length
 abbrev pub PartWithin : Part → Type 0
 PartWithin p = p.start + p.length ≤ file_most
 
-abbrev pub NamesWithin : Names → Type 0
-NamesWithin (M.At p) = PartWithin p
-NamesWithin M.Refused = Unit {0}
+abbrev pub NamesWithin : Option Part → Type 0
+NamesWithin (Some p) = PartWithin p
+NamesWithin None = Unit {0}
 
-abbrev pub StringWithin : StringState → Type 0
-StringWithin S.Absent = Unit {0}
-StringWithin S.Cancelled = Unit {0}
-StringWithin (S.Present p) = PartWithin p
-StringWithin S.Refused = Unit {0}
+-- any content
+abbrev pub Any : {A : Type 0} → A → Type 0
+Any x = Unit {0}
 
-abbrev pub WrittenWithin : Written → Type 0
-WrittenWithin (W.File n) = n ≤ file_most
-WrittenWithin W.Counts = Unit {0}
-WrittenWithin W.Names = Unit {0}
-WrittenWithin W.Lent = Unit {0}
-WrittenWithin W.Limit = Unit {0}
-WrittenWithin W.Size = Unit {0}
-WrittenWithin (W.Room n) = n ≤ file_most
+abbrev pub StateWithin : {A : Type 0} → (A → Type 0) → Option (S.State A) → Type 0
+StateWithin within (Some (S.TheVariants.Present x)) = within x
+StateWithin within (Some S.TheVariants.Absent) = Unit {0}
+StateWithin within (Some S.TheVariants.Cancelled) = Unit {0}
+StateWithin within None = Unit {0}
+
+-- what a refusal gives first
+abbrev pub LengthWithin : {R : Type 0} → (R → List ℕ) → Result ℕ R → Type 0
+LengthWithin values (Ok n) = Unit {0}
+LengthWithin values (Err why) = get_or (values why) 0 0 < 2 ^ 48
+
+abbrev pub WrittenWithin : Result ℕ WriteRefusal → Type 0
+WrittenWithin (Ok n) = n ≤ file_most
+WrittenWithin (Err r) = get_or (write_values r) 0 0 ≤ file_most
 
 -- a position is below the most bytes of a file
 abbrev pub FileWithin : FileRefusal → Type 0
 FileWithin r = file_position r < file_most
 
-abbrev pub MergedWithin : Merged → Type 0
-MergedWithin (G.File n) = n ≤ file_most
-MergedWithin G.Edition = Unit {0}
-MergedWithin (G.First r) = FileWithin r
-MergedWithin (G.Second r) = FileWithin r
-MergedWithin G.Size = Unit {0}
-MergedWithin (G.Room n) = n ≤ file_most
+abbrev pub MergedWithin : Result ℕ MergeRefusal → Type 0
+MergedWithin (Ok n) = n ≤ file_most
+MergedWithin (Err G.Edition) = Unit {0}
+MergedWithin (Err (G.First r)) = FileWithin r
+MergedWithin (Err (G.Second r)) = FileWithin r
+MergedWithin (Err G.Size) = Unit {0}
+MergedWithin (Err (G.Room n)) = n ≤ file_most
 
 -- a place lies in its list
 abbrev pub PlaceWithin : Place → Type 0
 PlaceWithin p = p.0 < 2 ^ 48
 
-abbrev pub FoundWithin : Found → Type 0
-FoundWithin (F.Boolean p) = PlaceWithin p
-FoundWithin (F.Number p) = PlaceWithin p
-FoundWithin (F.String p) = PlaceWithin p
-FoundWithin F.Unknown = Unit {0}
+abbrev pub FoundWithin : Option Found → Type 0
+FoundWithin (Some (F.Boolean p)) = PlaceWithin p
+FoundWithin (Some (F.Number p)) = PlaceWithin p
+FoundWithin (Some (F.String p)) = PlaceWithin p
+FoundWithin None = Unit {0}

@@ -3,27 +3,23 @@
 // specs/Numbers.antt gives for what the answer says. Assumed: nothing.
 #![tactic(auto)]
 
-ghost use Rattle.std.specs.Prelude.{◌≡◌, ◌+◌, ◌*◌, ◌^◌};
-ghost use Rattle.entry.specs.Says.{file_number, file_position};
-ghost use Rattle.entry.specs.Says.{says_names, says_boolean, says_number, says_string, says_written, says_merged};
+ghost use Rattle.std.specs.Prelude.{◌≡◌, ◌+◌, ◌*◌, ◌^◌, ◌<◌, ℕ, get_or, Err};
+ghost use Rattle.entry.specs.Says.{says_asked, says_state, refused_merge, says_merged};
 ghost use Rattle.names.specs.Finding.{says_found};
 ghost use Rattle.names.specs.Naming.{says_name};
-ghost use Rattle.text.specs.Compiling.{says_compiled};
-ghost use Rattle.building_laws.specs.Values.{Bounded};
 ghost use Rattle.expansion.specs.Limits.{string_most, expansion_most};
 ghost use Rattle.expansion.specs.Expanding.{says_expansion, Within};
-ghost use Rattle.c_numbers.specs.Numbers.{numbered, merging_number, part_code, refused_number};
-ghost use Rattle.c_numbers.specs.Numbers.{boolean_number, number_number, string_number};
+ghost use Rattle.c_numbers.specs.Numbers.{numbered, merging_number, none, part_code, refused_number};
+ghost use Rattle.c_numbers.specs.Numbers.{kinded, state_code};
 ghost use Rattle.c_numbers.specs.Numbers.{opening_array, counts_code, capability_number};
-ghost use Rattle.c_numbers.specs.Numbers.{NamesWithin, StringWithin, WrittenWithin, MergedWithin, FoundWithin};
-ghost use Rattle.c_numbers.specs.Numbers.{FileWithin};
+ghost use Rattle.c_numbers.specs.Numbers.{PartWithin, NamesWithin, StateWithin, LengthWithin};
+ghost use Rattle.c_numbers.specs.Numbers.{MergedWithin, FoundWithin, Any};
+ghost use Rattle.refusal_numbers.specs.Refusals.{says_by};
 
-use entry::{
-    Beyond, BooleanState, FileRefusal, Merged, Names, NumberState, StringState, Tables, Written,
-};
-use expansion::Expansion;
-use names::{Found, Name};
-use text::Compiled;
+use entry::{MergeRefusal, Opening, Part, State};
+use expansion::{ExpansionRefusal, Output};
+use names::Found;
+use refusal_numbers::Refusal;
 
 // A refusal's number stands in the top byte.
 pub const TOP: u64 = 72057594037927936;
@@ -49,9 +45,11 @@ pub fn refused_number(number: u8) -> u64
 }
 
 // What opening gives, as an array.
-pub fn opening_array(t: Tables, b: Beyond) -> [u64; 10]
-    ensures { result ≡ opening_array (record { tables = t; beyond = b }) }
+pub fn opening_array(o: Opening) -> [u64; 10]
+    ensures { result ≡ opening_array o }
 {
+    let t = o.tables;
+    let b = o.beyond;
     [
         t.booleans as u64,
         t.numbers as u64,
@@ -66,140 +64,149 @@ pub fn opening_array(t: Tables, b: Beyond) -> [u64; 10]
     ]
 }
 
-pub fn names_number(n: Names) -> u64
-    requires { NamesWithin n }
-    ensures { result ≡ numbered part_code (says_names n) }
-{
-    match n {
-        Names::At(p) => (p.start as u64) * START + p.length as u64,
-        Names::Refused => top(refusal_numbers::of_names(n)),
+// The content of a present state as a number, which stands below the state's kind.
+pub trait Content {
+    ghost code: { Self → ℕ };
+
+    ghost within: { Self → Type 0 };
+
+    fn number(self) -> u64
+        requires { within self }
+        ensures { (result ≡ code self) × (result < 2 ^ 48) };
+}
+
+impl Content for () {
+    ghost code = { none };
+
+    ghost within = { Any };
+
+    fn number(self) -> u64 {
+        0
     }
 }
 
-pub fn boolean_number(s: BooleanState) -> u64
-    ensures { result ≡ boolean_number (says_boolean s) }
-{
-    match s {
-        BooleanState::Absent => 0,
-        BooleanState::Present => KIND,
-        BooleanState::Cancelled => 2 * KIND,
-        BooleanState::Refused => refused_number(refusal_numbers::of_boolean(s)),
+impl Content for u32 {
+    ghost code = { λ n. n };
+
+    ghost within = { Any };
+
+    fn number(self) -> u64 {
+        self as u64
     }
 }
 
-pub fn number_number(s: NumberState) -> u64
-    ensures { result ≡ number_number (says_number s) }
-{
-    match s {
-        NumberState::Absent => 0,
-        NumberState::Present(n) => KIND + n as u64,
-        NumberState::Cancelled => 2 * KIND,
-        NumberState::Refused => refused_number(refusal_numbers::of_number(s)),
+impl Content for Part {
+    ghost code = { part_code };
+
+    ghost within = { PartWithin };
+
+    fn number(self) -> u64 {
+        (self.start as u64) * START + self.length as u64
     }
 }
 
-pub fn string_number(s: StringState) -> u64
-    requires { StringWithin s }
-    ensures { result ≡ string_number (says_string s) }
+#[tactic(auto, unfolding(crate::specs::Numbers::numbered))]
+pub fn names_number(names: Option<Part>) -> u64
+    requires { NamesWithin names }
+    ensures { result ≡ numbered part_code (says_asked names) }
 {
-    match s {
-        StringState::Absent => 0,
-        StringState::Present(p) => KIND + (p.start as u64) * START + p.length as u64,
-        StringState::Cancelled => 2 * KIND,
-        StringState::Refused => refused_number(refusal_numbers::of_string(s)),
+    match names {
+        Some(part) => part.number(),
+        None => top(refusal_numbers::of_asked(names)),
     }
 }
 
-pub fn written_number(w: Written) -> u64
-    requires { WrittenWithin w }
-    ensures { result ≡ numbered (λ n. n) (says_written w) }
+// A state: its kind, and a present one's content.
+#[tactic(auto, unfolding(crate::specs::Numbers::kinded, crate::specs::Numbers::state_code))]
+pub fn state_number<T: Content + Copy>(state: Option<State<T>>) -> u64
+    requires { StateWithin T.within state }
+    ensures { result ≡ kinded (state_code T.code) (says_state state) }
 {
-    let refusal = top(refusal_numbers::of_written(w));
-    match w {
-        Written::File(n) => n as u64,
-        Written::Counts => refusal,
-        Written::Names => refusal,
-        Written::Lent => refusal,
-        Written::Limit => refusal,
-        Written::Size => refusal,
-        Written::Room(n) => refusal + n as u64,
+    match state {
+        Some(State::Absent) => 0,
+        Some(State::Present(content)) => KIND + content.number(),
+        Some(State::Cancelled) => 2 * KIND,
+        None => refused_number(refusal_numbers::of_asked(state)),
     }
 }
 
-// A file's refusal, with its position.
-pub fn file_number(why: FileRefusal) -> u64
-    requires { FileWithin why }
-    ensures { result ≡ file_number why * 2 ^ 56 + file_position why }
+// A refusal: its number, and the first value that it gives.
+pub fn refusal<R: Refusal + Copy>(why: R) -> u64
+    requires { get_or (R.refusal_values why) 0 0 < 2 ^ 48 }
+    ensures { result ≡ R.refusal_number why * 2 ^ 56 + get_or (R.refusal_values why) 0 0 }
 {
-    top(refusal_numbers::of_file(why)) + refusal_numbers::position(why) as u64
+    top(why.number()) + why.value() as u64
 }
 
-pub fn merged_number(m: Merged) -> u64
-    requires { MergedWithin m }
-    ensures { result ≡ merging_number (λ n. n) (says_merged m) }
+// A file's or an output's length, or why there is none.
+#[tactic(auto, unfolding(crate::specs::Numbers::numbered))]
+pub fn length_number<R: Refusal + Copy>(answer: Result<usize, R>) -> u64
+    requires { LengthWithin R.refusal_values answer }
+    ensures { result ≡ numbered (λ n. n) (says_by R.refusal_number R.refusal_values answer) }
 {
-    let refusal = top(refusal_numbers::of_merged(m));
-    match m {
-        Merged::File(n) => n as u64,
-        Merged::Edition => refusal,
-        Merged::First(why) => file_number(why) + KIND,
-        Merged::Second(why) => file_number(why) + 2 * KIND,
-        Merged::Size => refusal,
-        Merged::Room(n) => refusal + n as u64,
+    match answer {
+        Ok(length) => length as u64,
+        Err(why) => refusal(why),
     }
 }
 
-pub fn compiled_number(c: Compiled) -> u64
-    requires { Bounded (says_compiled c) }
-    ensures { result ≡ numbered (λ n. n) (says_compiled c) }
+// Why nothing is merged; of a refused file, which one it is stands below the number and the position below that.
+fn merge_refusal(why: MergeRefusal) -> u64
+    requires { MergedWithin (Err why) }
+    ensures { result ≡ merging_number (λ n. n) (refused_merge why) }
 {
-    let refusal = top(refusal_numbers::of_compiled(c));
-    match c {
-        Compiled::File(n) => n as u64,
-        Compiled::Edition => refusal,
-        Compiled::Length => refusal,
-        Compiled::Refused(_, place) => refusal + place as u64,
-        Compiled::Size => refusal,
-        Compiled::Room(n) => refusal + n as u64,
+    match why {
+        MergeRefusal::First(first) => refusal(first) + KIND,
+        MergeRefusal::Second(second) => refusal(second) + 2 * KIND,
+        MergeRefusal::Edition => refusal(why),
+        MergeRefusal::Size => refusal(why),
+        MergeRefusal::Room(_) => refusal(why),
     }
 }
 
-pub fn name_number(n: Name) -> u64
-    ensures { result ≡ numbered (λ w. w) (says_name n) }
+#[tactic(auto, unfolding(crate::specs::Numbers::merging_number))]
+pub fn merged_number(answer: Result<usize, MergeRefusal>) -> u64
+    requires { MergedWithin answer }
+    ensures { result ≡ merging_number (λ n. n) (says_merged answer) }
 {
-    match n {
-        Name::Packed(w) => w,
-        Name::Beyond => top(refusal_numbers::of_name(n)),
+    match answer {
+        Ok(length) => length as u64,
+        Err(why) => merge_refusal(why),
+    }
+}
+
+#[tactic(auto, unfolding(crate::specs::Numbers::numbered))]
+pub fn name_number(name: Option<u64>) -> u64
+    ensures { result ≡ numbered (λ w. w) (says_name name) }
+{
+    match name {
+        Some(packed) => packed,
+        None => top(refusal_numbers::of_asked(name)),
     }
 }
 
 // An expansion of a string of at most 1,000 bytes: its steps and its output's length are within their bits.
-pub fn expansion_number(e: Expansion) -> u64
-    requires { Within string_most expansion_most e }
-    ensures { result ≡ numbered counts_code (says_expansion e) }
+#[tactic(auto, unfolding(crate::specs::Numbers::numbered))]
+pub fn expansion_number(answer: Result<Output, ExpansionRefusal>) -> u64
+    requires { Within string_most expansion_most answer }
+    ensures { result ≡ numbered counts_code (says_expansion answer) }
 {
-    let refusal = top(refusal_numbers::of_expansion(e));
-    match e {
-        Expansion::Done { length, steps } => (steps as u64) * START + length as u64,
-        Expansion::Place => refusal,
-        Expansion::Length => refusal,
-        Expansion::Malformed(i) => refusal + i as u64,
-        Expansion::Empty(i) => refusal + i as u64,
-        Expansion::Full(i) => refusal + i as u64,
-        Expansion::Kind(i) => refusal + i as u64,
-        Expansion::Room(n) => refusal + n as u64,
+    match answer {
+        Ok(output) => (output.steps as u64) * START + output.length as u64,
+        Err(refused) => refusal(refused),
     }
 }
 
 // A capability that a name means: its kind and its place.
-pub fn found_number(f: Found) -> u64
-    requires { FoundWithin f }
-    ensures { result ≡ capability_number (says_found f) }
+#[tactic(auto, unfolding(crate::specs::Numbers::kinded))]
+pub fn found_number(found: Option<Found>) -> u64
+    requires { FoundWithin found }
+    ensures { result ≡ capability_number (says_found found) }
 {
-    match f {
-        Found::Boolean(p) => p.0 as u64,
-        Found::Number(p) => KIND + p.0 as u64,
-        Found::String(p) => 2 * KIND + p.0 as u64,
-        Found::Unknown => refused_number(refusal_numbers::of_found(f)),
+    match found {
+        Some(Found::Boolean(p)) => p.0 as u64,
+        Some(Found::Number(p)) => KIND + p.0 as u64,
+        Some(Found::String(p)) => 2 * KIND + p.0 as u64,
+        None => refused_number(refusal_numbers::of_found(found)),
     }
 }

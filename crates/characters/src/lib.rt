@@ -8,6 +8,6 @@ ghost use Rattle.characters.specs.Character.{character};
 pub fn byte_of(v: i32) -> u8
     ensures { result ≡ character v }
 {
-    let low = (signed::bits_of(v) % 256) as u8;
+    let low = (v.cast_unsigned() % 256) as u8;
     if low == 0 { 128 } else { low }
 }

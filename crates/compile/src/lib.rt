@@ -12,48 +12,55 @@ ghost use Rattle.text.specs.Building.{first, named};
 ghost use Rattle.text.specs.Compiling.{compiling, says_compiled};
 ghost use Rattle.wanted.specs.Wanted.{wanted_by};
 
-use compile_alone::Tried;
 use edition::Edition;
-use text::{Compiled, TEXT_MOST};
+use text::{CompileRefusal, TEXT_MOST};
 
 // Compiles the text's first description, or the one that has the wanted name.
 fn compile_wanted(
     edition: Edition,
     text: &[u8],
-    is_named: bool,
-    wanted: &[u8],
+    wanted: Option<&[u8]>,
     buffer: &mut [u8],
-) -> Compiled
-    ensures { Leaves (compiling edition text.now (wanted_by is_named wanted.now)
+) -> Result<usize, CompileRefusal>
+    ensures { Leaves (compiling edition text.now (wanted_by wanted.entry)
         (length buffer.old)) buffer.old buffer.new (says_compiled result) }
 {
     let is_large = !edition::edition_ok(edition);
     let is_long = TEXT_MOST < text.len();
     if is_large {
-        return Compiled::Edition;
+        return Err(CompileRefusal::Edition);
     }
     if is_long {
-        return Compiled::Length;
+        return Err(CompileRefusal::Length);
     }
-    match compile_alone::try_first(text, edition, is_named, wanted, buffer) {
-        Tried::Answered(answer) => answer,
-        Tried::Several => compile_several::compile(text, edition, is_named, wanted, buffer),
+    match compile_alone::try_first(text, edition, wanted, buffer) {
+        Some(answer) => answer,
+        None => compile_several::compile(text, edition, wanted, buffer),
     }
 }
 
 // Writes the file of the description in a text that has the wanted name, any name but its last, at the buffer's start,
 // in the edition, or refuses and leaves the buffer as it is.
-pub fn compile(edition: Edition, text: &[u8], wanted: &[u8], buffer: &mut [u8]) -> Compiled
+pub fn compile(
+    edition: Edition,
+    text: &[u8],
+    wanted: &[u8],
+    buffer: &mut [u8],
+) -> Result<usize, CompileRefusal>
     ensures { Leaves (compiling edition text.now (named wanted.now)
         (length buffer.old)) buffer.old buffer.new (says_compiled result) }
 {
-    compile_wanted(edition, text, true, wanted, buffer)
+    compile_wanted(edition, text, Some(wanted), buffer)
 }
 
 // The same for the text's first description.
-pub fn compile_first(edition: Edition, text: &[u8], buffer: &mut [u8]) -> Compiled
+pub fn compile_first(
+    edition: Edition,
+    text: &[u8],
+    buffer: &mut [u8],
+) -> Result<usize, CompileRefusal>
     ensures { Leaves (compiling edition text.now first (length buffer.old))
         buffer.old buffer.new (says_compiled result) }
 {
-    compile_wanted(edition, text, false, text, buffer) // no name is wanted, so that none is read
+    compile_wanted(edition, text, None, buffer)
 }

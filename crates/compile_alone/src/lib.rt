@@ -5,7 +5,7 @@
 
 ghost use Rattle.std.specs.Prelude.{◌≡◌, true, ◌<◌, length};
 ghost use Rattle.edition.specs.Edition.{ok_edition};
-ghost use Rattle.text.specs.declared.Header.TheVariants as Headers;
+ghost use Rattle.text.specs.declared.CompileRefusal.TheVariants as Compiles;
 ghost use Rattle.text.specs.declared.Line.TheVariants as Lines;
 ghost use Rattle.text.specs.Lines.{line_at};
 ghost use Rattle.text.specs.Heading.{names_to, header_at};
@@ -15,58 +15,42 @@ ghost use Rattle.building_laws.specs.Alone.{HasWanted};
 ghost use Rattle.wanted.specs.Wanted.{wanted_by};
 ghost use Rattle.compile_alone.specs.Tries.{Tries};
 
-use edition::{BOOLEANS_MOST, Edition, NUMBERS_MOST, STRINGS_MOST};
-use text::{Compiled, Header, Line, TextRefusal};
-use text_file::UNSET;
-use walk_fields::Walked;
+use edition::Edition;
+use kept_states::States;
+use text::{CompileRefusal, Line, TextRefusal, TextRefused};
 
-// The answer where a text may have one description without uses.
-#[derive(Clone, Copy)]
-pub enum Tried {
-    Answered(Compiled),
-    // there are several descriptions, or a use, or the first isn't the wanted one
-    Several,
+// The refusal of the text's first header, or of what stands in its place.
+fn refused(why: TextRefusal) -> Option<Result<usize, CompileRefusal>>
+    ensures { result ≡ Some (Err (Compiles.Refused (record { why = why; at = 0 }))) }
+{
+    Some(Err(CompileRefusal::Refused(TextRefused { why, at: 0 })))
 }
 
-// Compiles the description whose header starts at a place and has its comma at another, if it is alone.
-fn try_fields(text: &[u8], at: usize, comma: usize, edition: Edition, buffer: &mut [u8]) -> Tried
+// Compiles the description whose header starts at a place and has its comma at another, if it is alone: None where it
+// has a use or another header stands behind it.
+fn try_fields(
+    text: &[u8],
+    at: usize,
+    comma: usize,
+    edition: Edition,
+    buffer: &mut [u8],
+) -> Option<Result<usize, CompileRefusal>>
     requires { (ok_edition edition ≡ true) × ((line_at text.now 0 ≡ Lines.Column at)
-        × (header_at text.now at ≡ Headers.Right comma)) }
+        × (header_at text.now at ≡ Ok comma)) }
     ensures { (w : Wanted) → HasWanted w (names_to text.now at comma)
         → Tries (fitted (length buffer.old) (building_text edition text.now w))
         buffer.old buffer.new result }
 {
-    let mut boolean_kinds = [0u8; BOOLEANS_MOST];
-    let mut number_kinds = [0u8; NUMBERS_MOST];
-    let mut number_values = [0u32; NUMBERS_MOST];
-    let mut string_kinds = [0u8; STRINGS_MOST];
-    let mut string_starts = [UNSET; STRINGS_MOST];
-    let mut string_lengths = [UNSET; STRINGS_MOST];
-    match walk_fields::walk(
-        text,
-        comma + 1,
-        edition,
-        &mut boolean_kinds,
-        &mut number_kinds,
-        &mut number_values,
-        &mut string_kinds,
-        &mut string_starts,
-        &mut string_lengths,
-    ) {
-        Walked::Alone => Tried::Answered(text_file::write(
-            text,
-            &text[at..comma],
-            edition,
-            &boolean_kinds,
-            &number_kinds,
-            &number_values,
-            &string_kinds,
-            &string_starts,
-            &string_lengths,
-            buffer,
-        )),
-        Walked::Several => Tried::Several,
-        Walked::Refused(why, p) => Tried::Answered(Compiled::Refused(why, p)),
+    let mut states = States::new();
+    match walk_fields::walk(text, comma + 1, edition, &mut states) {
+        Ok(is_alone) => {
+            if is_alone {
+                let names = &text[at..comma];
+                return Some(text_file::write(text, names, edition, &states.lent(), buffer));
+            }
+            None
+        }
+        Err(refused) => Some(Err(CompileRefusal::Refused(refused))),
     }
 }
 
@@ -75,42 +59,40 @@ fn try_headed(
     text: &[u8],
     at: usize,
     edition: Edition,
-    is_named: bool,
-    wanted: &[u8],
+    wanted: Option<&[u8]>,
     buffer: &mut [u8],
-) -> Tried
+) -> Option<Result<usize, CompileRefusal>>
     requires { (ok_edition edition ≡ true) × ((line_at text.now 0 ≡ Lines.Column at)
         × (at < length text.now)) }
     ensures { Tries (fitted (length buffer.old) (building_text edition text.now
-        (wanted_by is_named wanted.now))) buffer.old buffer.new result }
+        (wanted_by wanted.entry))) buffer.old buffer.new result }
 {
     match text_header::header_at(text, at) {
-        Header::Right(comma) => {
-            if wanted::is_wanted(&text[at..comma], is_named, wanted) {
+        Ok(comma) => {
+            if wanted::is_wanted(&text[at..comma], wanted) {
                 return try_fields(text, at, comma, edition, buffer);
             }
-            Tried::Several
+            None
         }
-        Header::Malformed => Tried::Answered(Compiled::Refused(TextRefusal::Malformed, 0)),
-        Header::LongAlias => Tried::Answered(Compiled::Refused(TextRefusal::Limit, 0)),
+        Err(why) => refused(why),
     }
 }
 
-// Compiles the text's first description, if it is alone and wanted.
+// Compiles the text's first description, if it is alone and wanted: None where there are several descriptions, or a
+// use, or the first isn't the wanted one.
 pub fn try_first(
     text: &[u8],
     edition: Edition,
-    is_named: bool,
-    wanted: &[u8],
+    wanted: Option<&[u8]>,
     buffer: &mut [u8],
-) -> Tried
+) -> Option<Result<usize, CompileRefusal>>
     requires { ok_edition edition ≡ true }
     ensures { Tries (fitted (length buffer.old) (building_text edition text.now
-        (wanted_by is_named wanted.now))) buffer.old buffer.new result }
+        (wanted_by wanted.entry))) buffer.old buffer.new result }
 {
     match text_lines::line_at(text, 0) {
-        Line::End => Tried::Answered(Compiled::Refused(TextRefusal::Malformed, 0)),
-        Line::Column(at) => try_headed(text, at, edition, is_named, wanted, buffer),
-        Line::Indented(_) => Tried::Answered(Compiled::Refused(TextRefusal::Malformed, 0)),
+        Line::End => refused(TextRefusal::Malformed),
+        Line::Column(at) => try_headed(text, at, edition, wanted, buffer),
+        Line::Indented(_) => refused(TextRefusal::Malformed),
     }
 }

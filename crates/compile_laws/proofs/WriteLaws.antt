@@ -19,7 +19,7 @@ use Rattle.entry.specs.Layout.{size_of}
 use Rattle.entry.specs.Writing.{Handed, state_of, string_table, encode}
 use Rattle.put.specs.Table.{HasLengths}
 use Rattle.put.proofs.TableLaws.{map_state_of, state_other, part_present}
-use Rattle.entry.specs.Handed.{front_handed}
+use Rattle.entry.specs.Handed.{with_lent}
 use Rattle.write_laws.specs.File.{sizes_handed, FrontFits}
 use Rattle.write_laws.proofs.FileLaws.{length_with}
 use Rattle.write_laws.proofs.AnswerLaws.{total_most}
@@ -54,9 +54,9 @@ module _ (e : Edition) (h : Handed) (o : ok_edition e ≡ true) (k : Holds e h) 
       omega arith
 
   pub front_fits : (b : List ℕ) (s : Sizes) → s ≡ sizes_handed e h → size_of (sizes_handed e h) ≤ file_most → size_of (sizes_handed e h) ≤ length b
-      → FrontFits b s (front_handed h.names h.boolean_kinds h.number_kinds h.number_values h.string_kinds h.string_lengths)
+      → FrontFits b s (with_lent h [])
   front_fits b s u m r =
-      subst (λ (z : Sizes). FrontFits b z (front_handed h.names h.boolean_kinds h.number_kinds h.number_values h.string_kinds h.string_lengths)) (sym u)
+      subst (λ (z : Sizes). FrontFits b z (with_lent h [])) (sym u)
       (record {
         named = refl;
         booleans = k.given.booleans;

@@ -2,10 +2,10 @@
 -- of their uses.
 -- Assumes nothing.
 use Rattle.std.specs.Prelude.{◌≡◌, List, [], map, ℕ, zero, suc, ◌+◌, ◌-◌, ◌≤◌, ◌<◌, length, get_or, take, drop}
+use Rattle.std.specs.Prelude.{Ok}
 use Rattle.base.specs.Answer.{Answer, refused, gives}
 use Rattle.edition.specs.declared.Edition.{Edition}
 use Rattle.uses.specs.Targets.{no_target}
-use Rattle.text.specs.declared.Header.TheVariants as H
 use Rattle.text.specs.Strings.{read_at, read_bytes}
 use Rattle.text.specs.Heading.{names_to, header_at}
 use Rattle.text.specs.Describing.{SayingAt, Fields, sayings_from, Description, descriptions_most, describing}
@@ -23,7 +23,7 @@ text_descriptions e t = descriptions_of (describing e t)
 
 -- a description's header stands at i and has its comma at c
 pub record StandsFrom (e : Edition) (t : List ℕ) (i c : ℕ) (d : Description) : Type 0 where
-  pub header : header_at t i ≡ H.Right c
+  pub header : header_at t i ≡ Ok c
   pub names : d.names ≡ names_to t i c
   pub fields : Fields
   pub read : sayings_from e t (c + 1) ≡ gives fields

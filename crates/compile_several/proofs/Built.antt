@@ -9,6 +9,7 @@ use native.Mathlib.Omega.{arith}
 use lib.Dec.{leb}
 use lib.ListN.{length, get_or}
 use borrow.Author.Tests.{le-leb, leb-true}
+use Rattle.std.specs.Prelude.{Result, Ok, Err}
 use Rattle.base.specs.If.{when◌then◌else◌}
 use Rattle.base.specs.Answer.{Answer, refused, gives, Leaves}
 use Rattle.edition.specs.declared.Edition.{Edition}
@@ -17,55 +18,63 @@ use Rattle.entry.specs.Reading.{Entry}
 use Rattle.entry.specs.Writing.{Handed}
 use Rattle.uses.specs.Fast.{fast}
 use Rattle.uses.proofs.Tree.{tree_fast}
-use Rattle.text.specs.declared.TextRefusal.{TextRefusal}
+use Rattle.text.specs.declared.TextRefused.{TextRefused}
 use Rattle.text.specs.Describing.{Description, bare, describing}
 use Rattle.text.specs.Building.{Having, nobody, numbered, has_name, having_from, having, description_at, uses_of, over_in, own_of}
 use Rattle.text.specs.Building.{outcome, totals, Wanted, first, named, wanted_as, wanted_in, building, building_text}
-use Rattle.text.specs.Compiling.{fitted, fitting_named, text_number}
+use Rattle.text.specs.Refusals.{text_refused}
+use Rattle.text.specs.Compiling.{fitted, fitting_named}
 use Rattle.text_laws.specs.JudgingLaws.{refused_gives, given_is}
 use Rattle.building_laws.specs.Over.{over_assoc_in, own_first}
 use Rattle.building_laws.proofs.Over.{bare_over}
 use Rattle.compile_laws.specs.Held.{text_entry}
 use Rattle.text_laws.specs.HeadingLaws.{header_right}
 use Rattle.compile_laws.specs.Listed.{text_descriptions, Listed, UsesListed, Targets}
-use Rattle.use_walk.specs.declared.UsesWalked.{UsesWalked}
-use Rattle.use_walk.specs.declared.UsesWalked.TheVariants as W
+use Rattle.kept_states.specs.declared.States.{States}
+use Rattle.kept_states.specs.States.{held, none_held}
 use Rattle.use_walk.specs.Walks.{Arrays, put_own, walked_to, WalksUses}
 use Rattle.compile_laws.proofs.ClearedLaws.{cleared, cleared_entry}
 
 -- ---- the walk along the uses
 
-module _ (e : Edition) (t : List ℕ) (d : ℕ) (after : List ℕ → Handed) (r : UsesWalked)
-    (w : WalksUses e d (cleared e t) after r) where
+pub walks_as : (e : Edition) (d : ℕ) (t : List ℕ) (s : States) (after : List ℕ → Handed) (r q : Result (Unit {0}) TextRefused)
+    → s ≡ none_held → r ≡ q → WalksUses e d (held s t) after r → WalksUses e d (cleared e t) after q
+walks_as e d t s after r q u v k =
+    subst (λ (z : Result (Unit {0}) TextRefused). WalksUses e d (cleared e t) after z) v
+    (subst (λ (z : States). WalksUses e d (held z t) after r) u k)
+
+module _ (e : Edition) (t : List ℕ) (d : ℕ) (after : List ℕ → Handed) where
   abbrev ds : List Description
   ds = text_descriptions e t
 
-  -- what the arrays hold under the description's own names is what it comes to
-  walk_comes : (n : List ℕ) → n ≡ (description_at ds d).names
+  -- what the states hold under the description's own names is what it comes to
+  walk_comes : (r : Result (Unit {0}) TextRefused) → WalksUses e d (cleared e t) after r → (n : List ℕ)
+      → n ≡ (description_at ds d).names
       → outcome e ds d ≡ walked_to (text_entry e (after n)) r
   unfolding own_of
-  walk_comes n q =
+  walk_comes r w n q =
       tree_fast (over_in e) (own_of e ds) (over_assoc_in e) (own_first e (own_of e ds)) (uses_of ds) (bare e n) d
       (ap (λ (m : List ℕ). over_in e (bare e m) (own_of e ds d)) q
       ∙ bare_over e (description_at ds d).names (description_at ds d).sayings)
       ∙ ap (λ (x : Entry). fast (put_own e ds) (uses_of ds) x d) (sym (cleared_entry e t n))
       ∙ sym (w.entry n)
 
-  pub walk_done : r ≡ W.Done → (n : List ℕ) → n ≡ (description_at ds d).names → (after n).names ≡ n
+  pub walk_done : (u : Unit {0}) → WalksUses e d (cleared e t) after (Ok u) → (n : List ℕ)
+      → n ≡ (description_at ds d).names → (after n).names ≡ n
       → length (description_at ds d).names ≤ given_names_most
       → (b c : List ℕ) (says : Answer ℕ) → Leaves (fitting_named (length b) (text_entry e (after n))) b c says
       → Leaves (fitted (length b) (outcome e ds d)) b c says
   unfolding fitting_named
-  walk_done u n q m l b c says h =
+  walk_done u w n q m l b c says h =
       let k : length (after n).names ≤ given_names_most = rw (m, q) l in
       subst (λ (a : Answer Entry). Leaves (fitted (length b) a) b c says)
-      (sym (walk_comes n q ∙ ap (walked_to (text_entry e (after n))) u)) (rw (le-leb (length (after n).names) given_names_most k) at h)
+      (sym (walk_comes (Ok u) w n q)) (rw (le-leb (length (after n).names) given_names_most k) at h)
 
-  pub walk_bad : (why : TextRefusal) (p : ℕ) → r ≡ W.Refused why p → (b : List ℕ)
-      → Leaves (fitted (length b) (outcome e ds d)) b b (refused (text_number why) (p ∷ []))
-  walk_bad why p u b =
-      subst (λ (a : Answer Entry). Leaves (fitted (length b) a) b b (refused (text_number why) (p ∷ [])))
-      (sym (walk_comes (description_at ds d).names refl ∙ ap (walked_to (text_entry e (after (description_at ds d).names))) u))
+  pub walk_bad : (r : TextRefused) → WalksUses e d (cleared e t) after (Err r) → (b : List ℕ)
+      → Leaves (fitted (length b) (outcome e ds d)) b b (text_refused r)
+  walk_bad r w b =
+      subst (λ (a : Answer Entry). Leaves (fitted (length b) a) b b (text_refused r))
+      (sym (walk_comes (Err r) w (description_at ds d).names refl))
       (refl, refl)
 
 -- ---- the wanted description is one of them
@@ -115,10 +124,10 @@ module _ (e : Edition) (t : List ℕ) (w : Wanted) where
   text_bad n v q b = rw q (refl, refl)
 
   module _ (ds : List Description) (is : describing e t ≡ gives ds) where
-    pub total_bad : (p : ℕ) → totals ds ≡ refused 13 (p ∷ []) → (b : List ℕ)
-        → Leaves (fitted (length b) (building_text e t w)) b b (refused 13 (p ∷ []))
+    pub total_bad : (n : ℕ) (v : List ℕ) → totals ds ≡ refused n v → (b : List ℕ)
+        → Leaves (fitted (length b) (building_text e t w)) b b (refused n v)
     unfolding building_text building
-    total_bad p q b = rw (is, q) (refl, refl)
+    total_bad n v q b = rw (is, q) (refl, refl)
 
     module _ (fit : totals ds ≡ gives tt) where
       pub wanted_bad : wanted_in ds w ≡ refused 18 (0 ∷ []) → (b : List ℕ)

@@ -5,8 +5,11 @@ use mathlib.Core.Bool.{true}
 use mathlib.Core.List.{List}
 use Prim.Native.Nat.{ℕ, ◌+◌, ◌-◌, ◌*◌, ◌/◌, ◌%◌, ◌<◌}
 use native.Mathlib.Omega.{arith}
+use Rattle.std.specs.Prelude.{Ok}
 use lib.ListN.{length, get_or-eq_default}
 use borrow.Author.Tests.{lt-ltb, eq-eqb, ne_eqb}
+use types.Run.{OneOf}
+use Rattle.base.specs.Tabulate.{Each}
 use Rattle.base.proofs.IfLaws.{below_or}
 use Rattle.expansion.specs.declared.Class.{Class}
 use Rattle.expansion.specs.declared.Class.TheVariants.{Plain, If, Then, Wrong}
@@ -15,9 +18,8 @@ use Rattle.expansion.specs.Items.{byte_at, is_digit, is_nonzero, singles, found,
 use Rattle.expansion.specs.Form.{class_of, class_at}
 use Rattle.item_parts.specs.Classes.{item_class}
 use Rattle.item_parts.specs.Right.{ArgumentTested}
-use Rattle.item_parts.proofs.Cases.{within_true, behind, percent_byte, braced_from, braced_start, braced_step, braced_close}
+use Rattle.item_parts.proofs.Cases.{within_true, behind, one_of, percent_byte, braced_from, braced_start, braced_step, braced_close}
 use Rattle.expansion_laws.specs.Forms.{class_on}
-use Rattle.conditionals.specs.declared.Turn.TheVariants.{Go}
 use Rattle.conditionals.specs.declared.Quick.{Quick}
 use Rattle.conditionals.specs.declared.Quick.TheVariants.{Item, Test}
 use Rattle.conditionals.specs.Walk.{nested, form_left}
@@ -95,6 +97,13 @@ pub pair_told : (s : List ℕ) (i x : ℕ) (class : Class) {r : Quick} → r ≡
     → item_class (behind x s (i + 1)) ≡ record { class = class; next = i + 1 + 1 } → QuickAs s i r
 pair_told s i x class e p q k = rw e (class_pair s i x class p q k)
 
+pub plain_told : (s : List ℕ) (i : ℕ) (ks : List ℕ) {r : Quick} → r ≡ Item Plain (i + 2) → byte_at s i ≡ 37
+    → OneOf ks (byte_at s (i + 1))
+    → Each (λ x. item_class (behind x s (i + 1)) ≡ record { class = Plain; next = i + 1 + 1 }) ks → QuickAs s i r
+plain_told s i ks e p o h =
+    let k = one_of (λ x. item_class (behind x s (i + 1)) ≡ record { class = Plain; next = i + 1 + 1 }) ks (byte_at s (i + 1)) h o in
+    pair_told s i (byte_at s (i + 1)) Plain e p refl k
+
 pub argument_told : (s : List ℕ) (k : ℕ) {r : Quick} → r ≡ Item Plain (k + 1) → is_nonzero (byte_at s k) ≡ true → QuickArgument s k r
 argument_told s k e d i p q n =
     let m : i + 2 + 1 ≡ i + 3 = omega arith in rw (e, n, m) (class_argument s i p q (rw n at d))
@@ -149,7 +158,7 @@ module _ (s : List ℕ) (i : ℕ) where
       omega (arith, n, class_on s (i + 5) h)
 
 module _ (s : List ℕ) (from before i k : ℕ) (a : ScannedAs s from before record { at = i; kept = k }) where
-  pub item_turn : (class : Class) (next k' : ℕ) → i < length s → QuickAs s i (Item class next) → nested class k ≡ Go k'
+  pub item_turn : (class : Class) (next k' : ℕ) → i < length s → QuickAs s i (Item class next) → nested class k ≡ Ok k'
       → ScannedAs s from before record { at = next; kept = k' }
   item_turn class next k' h e q =
       record {

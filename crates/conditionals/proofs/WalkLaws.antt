@@ -6,6 +6,7 @@ use mathlib.Core.List.{List, [], ◌∷◌}
 use Prim.Native.Nat.{ℕ, zero, suc, ◌+◌, ◌-◌, ◌*◌, ◌%◌, ◌^◌, ◌≤◌, ◌<◌}
 use native.Mathlib.Nat.{pow-suc, not-suc-le-zero, le_of_suc-le-suc}
 use native.Mathlib.Omega.{arith}
+use Rattle.std.specs.Prelude.{Result, Ok, Err}
 use lib.Dec.{eqb, ltb}
 use lib.ListN.{length}
 use borrow.Author.Tests.{lt-ltb, le-ltb, ltb-true, eq-eqb, ne_eqb, eqb-true}
@@ -13,24 +14,21 @@ use Rattle.base.specs.If.{when◌then◌else◌}
 use Rattle.base.proofs.IfLaws.{below_or}
 use Rattle.expansion.specs.declared.Class.{Class}
 use Rattle.expansion.specs.declared.Class.TheVariants.{Plain, If, Then, Else, End, Wrong}
-use Rattle.expansion.specs.declared.Form.TheVariants as F
 use Rattle.expansion.specs.Form.{class_at, Level, condition, body, otherwise, Nesting, levels, misplaced, after_if, after_then, after_else, after_end, nesting, form_from, form_of}
 use Rattle.expansion_laws.specs.Forms.{class_on}
-use Rattle.conditionals.specs.declared.Turn.{Turn}
-use Rattle.conditionals.specs.declared.Turn.TheVariants.{Go, Stop}
 use Rattle.conditionals.specs.Walk.{nested_most, nested, checked, form_left}
 
 -- ---- the steps of the check
 
-checked_go : (f : ℕ) (s : List ℕ) (i k k' : ℕ) → i < length s → nested (class_at s i).class k ≡ Go k' → checked (suc f) s i k ≡ checked f s (class_at s i).next k'
+checked_go : (f : ℕ) (s : List ℕ) (i k k' : ℕ) → i < length s → nested (class_at s i).class k ≡ Ok k' → checked (suc f) s i k ≡ checked f s (class_at s i).next k'
 unfolding checked
 checked_go f s i k k' h q = rw (checked, lt-ltb i (length s) h, q)
 
-checked_stop : (f : ℕ) (s : List ℕ) (i k : ℕ) → i < length s → nested (class_at s i).class k ≡ Stop → checked (suc f) s i k ≡ F.Wrong i
+checked_stop : (f : ℕ) (s : List ℕ) (i k : ℕ) → i < length s → nested (class_at s i).class k ≡ Err tt → checked (suc f) s i k ≡ Err i
 unfolding checked
 checked_stop f s i k h q = rw (checked, lt-ltb i (length s) h, q)
 
-checked_end : (f : ℕ) (s : List ℕ) (i k : ℕ) → length s ≤ i → checked (suc f) s i k ≡ (when eqb k 0 then F.Right else F.Wrong (length s))
+checked_end : (f : ℕ) (s : List ℕ) (i k : ℕ) → length s ≤ i → checked (suc f) s i k ≡ (when eqb k 0 then Ok tt else Err (length s))
 unfolding checked
 checked_end f s i k h = rw (checked, le-ltb i (length s) h)
 
@@ -42,32 +40,32 @@ checked_more (suc n) s i k h =
     (λ l. by_turn (nested (class_at s i).class k) refl l (λ k'. checked_more n s (class_at s i).next k' (omega (arith, class_on s i l))))
     (λ l. checked_end n s i k l ∙ sym (checked_end (suc n) s i k l))
   where
-    by_turn : (t : Turn) → nested (class_at s i).class k ≡ t → i < length s → ((k' : ℕ) → checked n s (class_at s i).next k' ≡ checked (suc n) s (class_at s i).next k')
+    by_turn : (t : Result ℕ (Unit {0})) → nested (class_at s i).class k ≡ t → i < length s → ((k' : ℕ) → checked n s (class_at s i).next k' ≡ checked (suc n) s (class_at s i).next k')
         → checked (suc n) s i k ≡ checked (suc (suc n)) s i k
-    by_turn (Go k') q l ih = checked_go n s i k k' l q ∙ ih k' ∙ sym (checked_go (suc n) s i k k' l q)
-    by_turn Stop q l ih = checked_stop n s i k l q ∙ sym (checked_stop (suc n) s i k l q)
+    by_turn (Ok k') q l ih = checked_go n s i k k' l q ∙ ih k' ∙ sym (checked_go (suc n) s i k k' l q)
+    by_turn (Err e) q l ih = checked_stop n s i k l q ∙ sym (checked_stop (suc n) s i k l q)
 
-pub left_go : (s : List ℕ) (i k k' : ℕ) → i < length s → nested (class_at s i).class k ≡ Go k' → form_left s i k ≡ form_left s (class_at s i).next k'
+pub left_go : (s : List ℕ) (i k k' : ℕ) → i < length s → nested (class_at s i).class k ≡ Ok k' → form_left s i k ≡ form_left s (class_at s i).next k'
 left_go s i k k' h q =
     checked_go (length s) s i k k' h q ∙ checked_more (length s) s (class_at s i).next k' (omega (arith, class_on s i h))
 
-pub left_stop : (s : List ℕ) (i k : ℕ) → i < length s → nested (class_at s i).class k ≡ Stop → form_left s i k ≡ F.Wrong i
+pub left_stop : (s : List ℕ) (i k : ℕ) → i < length s → nested (class_at s i).class k ≡ Err tt → form_left s i k ≡ Err i
 left_stop s i k h q = checked_stop (length s) s i k h q
 
-pub left_end : (s : List ℕ) (i k : ℕ) → length s ≤ i → form_left s i k ≡ (when eqb k 0 then F.Right else F.Wrong (length s))
+pub left_end : (s : List ℕ) (i k : ℕ) → length s ≤ i → form_left s i k ≡ (when eqb k 0 then Ok tt else Err (length s))
 left_end s i k h = checked_end (length s) s i k h
 
 -- ---- the number kept stays small
 
-abbrev kept_of : Turn → ℕ
-kept_of Stop = 0
-kept_of (Go k) = k
+abbrev kept_of : Result ℕ (Unit {0}) → ℕ
+kept_of (Err e) = 0
+kept_of (Ok k) = k
 
-kept_if : (n : ℕ) (b : Bool) (x y : Turn) → (b ≡ true → kept_of x ≤ n) → (b ≡ false → kept_of y ≤ n) → kept_of (when b then x else y) ≤ n
+kept_if : (n : ℕ) (b : Bool) (x y : Result ℕ (Unit {0})) → (b ≡ true → kept_of x ≤ n) → (b ≡ false → kept_of y ≤ n) → kept_of (when b then x else y) ≤ n
 kept_if n true x y p q = p refl
 kept_if n false x y p q = q refl
 
-kept_go : (n k : ℕ) (t : Turn) → kept_of t ≤ n → t ≡ Go k → k ≤ n
+kept_go : (n k : ℕ) (t : Result ℕ (Unit {0})) → kept_of t ≤ n → t ≡ Ok k → k ≤ n
 kept_go n k t h q = let p : kept_of t ≡ k = ap kept_of q in rw (← p) h
 
 kept_most : (c : Class) (k : ℕ) → k ≤ nested_most → kept_of (nested c k) ≤ nested_most
@@ -79,7 +77,7 @@ kept_most Else k b = kept_if nested_most (eqb (k % 4) 2) _ _ (λ q. omega (arith
 kept_most End k b = kept_if nested_most (ltb (k % 4) 2) _ _ (λ q. omega arith) (λ q. omega arith)
 kept_most Wrong k b = omega arith
 
-pub nested_most_lem : (c : Class) (k k' : ℕ) → k ≤ nested_most → nested c k ≡ Go k' → k' ≤ nested_most
+pub nested_most_lem : (c : Class) (k k' : ℕ) → k ≤ nested_most → nested c k ≡ Ok k' → k' ≤ nested_most
 nested_most_lem c k k' b q = kept_go nested_most k' (nested c k) (kept_most c k b) q
 
 -- ---- the number kept is the open conditionals of form_from
@@ -109,9 +107,9 @@ code_above n [] h = absurd (not-suc-le-zero h)
 code_above zero (l ∷ ls) h = omega (arith, code_cons l ls)
 code_above (suc n) (l ∷ ls) h = omega (arith, code_cons l ls, code_above n ls (le_of_suc-le-suc h), pow-suc 4 n)
 
-abbrev nesting_turn : Nesting → Turn
-nesting_turn (levels ls) = Go (code ls)
-nesting_turn misplaced = Stop
+abbrev nesting_turn : Nesting → Result ℕ (Unit {0})
+nesting_turn (levels ls) = Ok (code ls)
+nesting_turn misplaced = Err tt
 
 nested_if : (ls : List Level) → nested If (code ls) ≡ nesting_turn (after_if ls)
 unfolding nested after_if code
@@ -125,17 +123,17 @@ unfolding nested nesting after_then after_else after_end code
 nested_nesting Plain ls = refl
 nested_nesting If ls = nested_if ls
 nested_nesting Then [] = refl
-nested_nesting Then (condition ∷ ls) = rw (eq-eqb ((code ls * 4 + 1) % 2) 1 (omega arith)) (ap Go (omega arith))
+nested_nesting Then (condition ∷ ls) = rw (eq-eqb ((code ls * 4 + 1) % 2) 1 (omega arith)) (ap Ok (omega arith))
 nested_nesting Then (body ∷ ls) = rw (ne_eqb ((code ls * 4 + 2) % 2) 1 (λ q. omega arith))
-nested_nesting Then (otherwise ∷ ls) = rw (eq-eqb ((code ls * 4 + 3) % 2) 1 (omega arith)) (ap Go (omega arith))
+nested_nesting Then (otherwise ∷ ls) = rw (eq-eqb ((code ls * 4 + 3) % 2) 1 (omega arith)) (ap Ok (omega arith))
 nested_nesting Else [] = refl
 nested_nesting Else (condition ∷ ls) = rw (ne_eqb ((code ls * 4 + 1) % 4) 2 (λ q. omega arith))
-nested_nesting Else (body ∷ ls) = rw (eq-eqb ((code ls * 4 + 2) % 4) 2 (omega arith)) (ap Go (omega arith))
+nested_nesting Else (body ∷ ls) = rw (eq-eqb ((code ls * 4 + 2) % 4) 2 (omega arith)) (ap Ok (omega arith))
 nested_nesting Else (otherwise ∷ ls) = rw (ne_eqb ((code ls * 4 + 3) % 4) 2 (λ q. omega arith))
 nested_nesting End [] = refl
 nested_nesting End (condition ∷ ls) = rw (lt-ltb ((code ls * 4 + 1) % 4) 2 (omega arith))
-nested_nesting End (body ∷ ls) = rw (le-ltb ((code ls * 4 + 2) % 4) 2 (omega arith)) (ap Go (omega arith))
-nested_nesting End (otherwise ∷ ls) = rw (le-ltb ((code ls * 4 + 3) % 4) 2 (omega arith)) (ap Go (omega arith))
+nested_nesting End (body ∷ ls) = rw (le-ltb ((code ls * 4 + 2) % 4) 2 (omega arith)) (ap Ok (omega arith))
+nested_nesting End (otherwise ∷ ls) = rw (le-ltb ((code ls * 4 + 3) % 4) 2 (omega arith)) (ap Ok (omega arith))
 nested_nesting Wrong ls = refl
 
 -- at the string's end

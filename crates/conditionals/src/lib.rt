@@ -12,20 +12,13 @@ ghost use Rattle.conditionals.specs.Scan.{PercentAt, QuickAs, ScannedAs};
 ghost use Rattle.conditionals.specs.Scan.{QuickIf, QuickBraced, QuickArgument};
 ghost use Rattle.conditionals.specs.declared.Quick.TheVariants as Quick;
 
-use expansion::{Class, Form};
+use expansion::Class;
 
 // The number from which on 16 conditionals are open.
 const NEST_FULL: u64 = 1073741824;
 
-// What an item does to a number kept: go on with another, or stop.
-#[derive(Clone, Copy)]
-pub enum Turn {
-    Go(u64),
-    Stop,
-}
-
 // What is quickly told of a place: the class of its item and the place behind it; that `%?`, an argument and `%t`
-// stand there, with the place behind them; or nothing.
+// stand there, with the place behind them; or nothing. Three ways of one match, so no `Option` of two.
 #[derive(Clone, Copy)]
 enum Quick {
     Item { class: Class, next: usize },
@@ -40,34 +33,27 @@ struct Scanned {
     kept: u64,
 }
 
-// What an item of a class does to the open conditionals.
-pub fn nest(class: Class, kept: u64) -> Turn
+// What an item of a class does to the open conditionals: the number then kept, or an error where it may not stand. (A
+// test of an Option costs more here: in a Result the way on has the tag 0.)
+pub fn nest(class: Class, kept: u64) -> Result<u64, ()>
     requires { kept ≤ nested_most }
     ensures { result ≡ nested class kept }
 {
     match class {
-        Class::Plain => Turn::Go(kept),
+        Class::Plain => Ok(kept),
         Class::If => if kept < NEST_FULL {
-            Turn::Go(kept * 4 + 1)
+            Ok(kept * 4 + 1)
         } else {
-            Turn::Stop
+            Err(())
         },
         Class::Then => if kept % 2 == 1 {
-            Turn::Go(kept / 4 * 4 + 2)
+            Ok(kept / 4 * 4 + 2)
         } else {
-            Turn::Stop
+            Err(())
         },
-        Class::Else => if kept % 4 == 2 {
-            Turn::Go(kept + 1)
-        } else {
-            Turn::Stop
-        },
-        Class::End => if kept % 4 < 2 {
-            Turn::Stop
-        } else {
-            Turn::Go(kept / 4)
-        },
-        Class::Wrong => Turn::Stop,
+        Class::Else => if kept % 4 == 2 { Ok(kept + 1) } else { Err(()) },
+        Class::End => if kept % 4 < 2 { Err(()) } else { Ok(kept / 4) },
+        Class::Wrong => Err(()),
     }
 }
 
@@ -137,30 +123,9 @@ fn quick_percent(s: &[u8], i: usize) -> Quick
     match c {
         b'p' => quick_argument(s, next),
         b'{' => quick_braced(s, next),
-        b'%' => quick_item(Class::Plain, next),
-        b'c' => quick_item(Class::Plain, next),
-        b'd' => quick_item(Class::Plain, next),
-        b'o' => quick_item(Class::Plain, next),
-        b'x' => quick_item(Class::Plain, next),
-        b'X' => quick_item(Class::Plain, next),
-        b's' => quick_item(Class::Plain, next),
-        b'l' => quick_item(Class::Plain, next),
-        b'+' => quick_item(Class::Plain, next),
-        b'-' => quick_item(Class::Plain, next),
-        b'*' => quick_item(Class::Plain, next),
-        b'/' => quick_item(Class::Plain, next),
-        b'm' => quick_item(Class::Plain, next),
-        b'&' => quick_item(Class::Plain, next),
-        b'|' => quick_item(Class::Plain, next),
-        b'^' => quick_item(Class::Plain, next),
-        b'=' => quick_item(Class::Plain, next),
-        b'>' => quick_item(Class::Plain, next),
-        b'<' => quick_item(Class::Plain, next),
-        b'A' => quick_item(Class::Plain, next),
-        b'O' => quick_item(Class::Plain, next),
-        b'!' => quick_item(Class::Plain, next),
-        b'~' => quick_item(Class::Plain, next),
-        b'i' => quick_item(Class::Plain, next),
+        b'%' | b'c' | b'o' | b'x' | b'X' | b'!' | b'~' | b'i' => quick_item(Class::Plain, next),
+        b'+' | b'-' | b'/' | b'm' | b'|' | b'^' | b'=' | b's' => quick_item(Class::Plain, next),
+        b'*' | b'&' | b'<' | b'>' | b'A' | b'O' | b'd' | b'l' => quick_item(Class::Plain, next),
         b'?' => quick_if(s, next),
         b't' => quick_item(Class::Then, next),
         b'e' => quick_item(Class::Else, next),
@@ -193,17 +158,18 @@ fn scan(s: &[u8], from: usize, before: u64) -> Scanned
     requires { before ≤ nested_most }
     ensures { ScannedAs s.now from before result }
 {
+    // a cursor that moves by an item's size: no range counts it
     let mut i: usize = from;
     let mut kept: u64 = before;
-    let most = if s.len() < 2 { 0 } else { s.len() - 2 };
+    let most = s.len().saturating_sub(2);
     while i < most {
         match quick_at(s, i) {
             Quick::Item { class, next } => match nest(class, kept) {
-                Turn::Go(k) => {
+                Ok(k) => {
                     i = next;
                     kept = k;
                 }
-                Turn::Stop => return Scanned { at: i, kept: kept },
+                Err(()) => return Scanned { at: i, kept: kept },
             },
             Quick::Test(next) => {
                 if NEST_FULL <= kept {
@@ -218,31 +184,23 @@ fn scan(s: &[u8], from: usize, before: u64) -> Scanned
     Scanned { at: i, kept: kept }
 }
 
-// The form of a string.
-pub fn form_of(s: &[u8]) -> Form
+// The form of a string: where it is wrong, the place of its first wrong item.
+pub fn form_of(s: &[u8]) -> Result<(), usize>
     ensures { result ≡ form_of s.now }
 {
+    // a cursor that moves by an item's size: no range counts it
     let mut i: usize = 0;
     let mut kept: u64 = 0;
     loop {
         let p = scan(s, i, kept);
-        i = p.at;
-        kept = p.kept;
-        if s.len() <= i {
-            if kept == 0 {
-                return Form::Right;
-            }
-            return Form::Wrong(s.len());
+        if s.len() <= p.at {
+            return if p.kept == 0 { Ok(()) } else { Err(s.len()) };
         }
-        let c = item_classes::class_at(s, i);
-        let class = c.class;
-        let next = c.next;
-        match nest(class, kept) {
-            Turn::Go(k) => {
-                i = next;
-                kept = k;
-            }
-            Turn::Stop => return Form::Wrong(i),
-        }
+        let c = item_classes::class_at(s, p.at);
+        let Ok(behind) = nest(c.class, p.kept) else {
+            return Err(p.at);
+        };
+        i = c.next;
+        kept = behind;
     }
 }

@@ -132,9 +132,10 @@ fn usual_at(text: &[u8], at: usize) -> Usual
 }
 
 // The string that starts at a place, its bytes counted.
-pub fn content_at(text: &[u8], at: usize) -> Content
+pub fn content_at(text: &[u8], at: usize) -> Option<Content>
     ensures { result ≡ content_of (read_at text.now at) }
 {
+    // a cursor that moves by an item's size: no range counts it
     let mut i = at;
     let mut n = 0;
     while i < text.len() {
@@ -144,7 +145,10 @@ pub fn content_at(text: &[u8], at: usize) -> Content
                 i += 1;
             }
             Usual::End => {
-                return Content::Whole(n, i);
+                return Some(Content {
+                    length: n,
+                    comma: i,
+                });
             }
             Usual::Pair => {
                 n += 1;
@@ -156,7 +160,10 @@ pub fn content_at(text: &[u8], at: usize) -> Content
             }
             Usual::Other => match item_at(text, i) {
                 StringItem::End => {
-                    return Content::Whole(n, i);
+                    return Some(Content {
+                        length: n,
+                        comma: i,
+                    });
                 }
                 StringItem::Byte(_, k) => {
                     n += 1;
@@ -166,12 +173,12 @@ pub fn content_at(text: &[u8], at: usize) -> Content
                     i = k;
                 }
                 StringItem::Malformed => {
-                    return Content::Malformed;
+                    return None;
                 }
             },
         }
     }
-    Content::Malformed
+    None
 }
 
 // The bytes that the string at from stands for, of which there are size, put into a buffer from at on.
@@ -179,6 +186,7 @@ pub fn put_read(b: &mut [u8], at: usize, text: &[u8], from: usize, size: usize)
     requires { Fits b.old at text.now from size }
     ensures { b.new ≡ put_at b.old at (read_bytes (read_at text.now from)) }
 {
+    // two cursors that move by an item's size and by what it stands for: no range counts them
     let mut i = from;
     let mut p = at;
     let end = at + size;

@@ -3,7 +3,8 @@
 use Rattle.std.specs.Prelude.{List, [], ◌++◌, ℕ}
 use Rattle.base.specs.Answer.{Answer, refused, gives}
 use Rattle.edition.specs.declared.Edition.{Edition}
-use Rattle.entry.specs.Asking.{Opening, opening}
+use Rattle.entry.specs.Asking.{opening}
+use Rattle.entry.specs.declared.Opening.{Opening}
 use Rattle.names.specs.Names.{ascii}
 use Rattle.show_names.specs.Line.{line_end}
 use Rattle.show_names.specs.Naming.{decimal}

@@ -2,16 +2,13 @@
 // many slots of the file lie beyond it. Proved: each line is the one of specs/Counts.antt. Assumed: nothing.
 #![tactic(auto)]
 
-ghost use Rattle.std.specs.Prelude.{◌≡◌, ◌+◌, ◌≤◌, length};
-ghost use Rattle.entry.specs.Asking.{opening};
-ghost use Rattle.entry.specs.Says.{says_opened};
+ghost use Rattle.std.specs.Prelude.{◌+◌, ◌≤◌, length};
 ghost use Rattle.shown.specs.Puts.{Puts, Holds};
 ghost use Rattle.show_names.specs.Line.{line_room};
 ghost use Rattle.count_lines.specs.Counts.{counts_line, edition_line, beyond_line};
 
 use edition::Edition;
-use entry::Opened;
-use show_names::{put_number, put_text};
+use show_names::{OpenFile, put_number, put_text};
 
 // Puts words, and a count for each list.
 fn put_counts(
@@ -46,20 +43,16 @@ pub fn edition_line(edition: Edition, out: &mut [u8]) -> usize
 }
 
 // The line of the slots beyond the edition.
-pub fn beyond_line(file: &[u8], edition: Edition, opened: Opened, out: &mut [u8]) -> usize
-    requires { (line_room file.now ≤ length out.old) × (says_opened opened ≡ opening edition file.now) }
-    ensures { Holds result out.new (beyond_line edition file.now) }
+pub fn beyond_line(opened: OpenFile, out: &mut [u8]) -> usize
+    requires { line_room opened.file.now ≤ length out.old }
+    ensures { Holds result out.new (beyond_line opened.entry.edition opened.entry.file.now) }
 {
-    match opened {
-        Opened::Entry(_, beyond) => {
-            put_counts(
-                out,
-                b"beyond the edition: ",
-                beyond.booleans,
-                beyond.numbers,
-                beyond.strings,
-            )
-        }
-        Opened::Refused(_) => 0,
-    }
+    let beyond = opened.answer.beyond;
+    put_counts(
+        out,
+        b"beyond the edition: ",
+        beyond.booleans,
+        beyond.numbers,
+        beyond.strings,
+    )
 }

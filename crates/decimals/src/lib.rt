@@ -36,6 +36,7 @@ fn put_pairs(out: &mut [u8], end: usize, n: u32, rounds: usize) -> u32
     for _ in 0..rounds {
         let pair = digit_pairs::pair_of(left % 100);
         at -= 2;
+        // both stores are compiled into one
         out[at + 1] = (pair / 256) as u8;
         out[at] = (pair % 256) as u8;
         left = left / 100;
@@ -50,6 +51,6 @@ pub fn put(out: &mut [u8], end: usize, n: u32, count: usize)
 {
     let left = put_pairs(out, end, n, count / 2);
     if count % 2 == 1 {
-        out[end - count] = 48 + left as u8;
+        out[end - count] = b'0' + left as u8;
     }
 }

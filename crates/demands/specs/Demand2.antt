@@ -12,7 +12,8 @@ use Rattle.edition.specs.declared.Edition.{Edition}
 use Rattle.edition.specs.Edition.{ok_edition}
 use Rattle.entry.specs.declared.Beyond.{Beyond}
 use Rattle.entry.specs.Reading.{Entry}
-use Rattle.entry.specs.Asking.{Opening, opening}
+use Rattle.entry.specs.declared.Opening.{Opening}
+use Rattle.entry.specs.Asking.{opening}
 use Rattle.entry.specs.Writing.{encode, entry_of}
 use Rattle.entry.specs.Merging.{merged}
 use Rattle.entry_laws.specs.Sound.{WrittenIn}

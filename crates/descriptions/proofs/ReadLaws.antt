@@ -7,28 +7,27 @@ use native.Mathlib.Omega.{arith}
 use lib.ListN.{length, get_or, set, take, drop, length-append, length-set, length-drop, take-append-drop}
 use lib.ListN.{get_or-append}
 use lib.Seq.{get_or_at, get_or-set_same, get_or-set_other, length-take-le, take_at, drop_at, take-append-le, drop-append-le}
+use Rattle.std.specs.Prelude.{Option, Some, None, Result, Ok, Err}
 use Rattle.base.specs.Answer.{Answer, refused, gives, map_answer}
 use Rattle.base.specs.Overwrite.{put_at}
 use Rattle.base.proofs.IfLaws.{below_or}
 use Rattle.base.proofs.OverwriteLaws.{length_put}
 use Rattle.edition.specs.declared.Edition.{Edition}
-use Rattle.text.specs.declared.Header.TheVariants as H
 use Rattle.text.specs.declared.Line.{Line}
 use Rattle.text.specs.declared.Line.TheVariants.{End, Column, Indented}
 use Rattle.text.specs.declared.TextRefusal.{TextRefusal}
+use Rattle.text.specs.declared.TextRefused.{TextRefused}
 use Rattle.text.specs.Lines.{line_at}
 use Rattle.text.specs.Heading.{names_to, header_at}
 use Rattle.text.specs.Describing.{SayingAt, fields_to, sayings_from, Description, description, descriptions_most}
 use Rattle.text.specs.Describing.{one_too_many, behind_fields, with_later, headed, descriptions_at, begun, describing}
 use Rattle.text.specs.Building.{description_at}
-use Rattle.text.specs.Compiling.{text_number}
+use Rattle.text.specs.Refusals.{text_number}
 use Rattle.text_laws.specs.LineLaws.{LineAfter, lines_after}
 use Rattle.compile_laws.specs.Listed.{descriptions_of, text_descriptions, StandsFrom, head_place, Listed, uses_room}
 use Rattle.compile_laws.specs.Listed.{use_places, UsesListed}
-use Rattle.each_field.specs.Each.{Passes}
-use Rattle.descriptions.specs.declared.DescriptionRead.{DescriptionRead}
-use Rattle.descriptions.specs.declared.DescriptionRead.TheVariants as D
-use Rattle.descriptions.specs.declared.TextRead.TheVariants as R
+use Rattle.each_field.specs.Each.{line_behind, Passes}
+use Rattle.descriptions.specs.declared.Described.{Described}
 use Rattle.descriptions.specs.Reads.{Describes, Rooms, TextReads}
 
 -- ---- places of headers
@@ -85,7 +84,7 @@ followed_none (gives ds) = refl
 
 module _ (e : Edition) (t : List ℕ) where
   -- where a description is right, it stands in front of those behind it
-  pub described_one : (more p i c : ℕ) (ss : List SayingAt) (l : Line) → header_at t i ≡ H.Right c
+  pub described_one : (more p i c : ℕ) (ss : List SayingAt) (l : Line) → header_at t i ≡ Ok c
       → sayings_from e t (c + 1) ≡ gives (fields_to ss l)
       → descriptions_at e t (suc more) p i
       ≡ followed (description p (names_to t i c) ss ∷ []) (behind_fields (λ (j : ℕ). descriptions_at e t more j j) l)
@@ -96,13 +95,11 @@ module _ (e : Edition) (t : List ℕ) where
 
   -- where its header or one of its fields is bad, so is any text that has it there
   module _ (i p : ℕ) (later : ℕ → Answer (List Description)) where
-    pub refused_malformed : header_at t i ≡ H.Malformed → headed e t later p i (header_at t i) ≡ refused 10 (p ∷ [])
-    refused_malformed h = ap (headed e t later p i) h
+    pub refused_header : (why : TextRefusal) → header_at t i ≡ Err why
+        → headed e t later p i (header_at t i) ≡ refused (text_number why) (p ∷ [])
+    refused_header why h = ap (headed e t later p i) h
 
-    pub refused_long : header_at t i ≡ H.LongAlias → headed e t later p i (header_at t i) ≡ refused 13 (p ∷ [])
-    refused_long h = ap (headed e t later p i) h
-
-    pub refused_field : (c n : ℕ) (v : List ℕ) → header_at t i ≡ H.Right c → sayings_from e t (c + 1) ≡ refused n v
+    pub refused_field : (c n : ℕ) (v : List ℕ) → header_at t i ≡ Ok c → sayings_from e t (c + 1) ≡ refused n v
         → headed e t later p i (header_at t i) ≡ refused n v
     refused_field c n v h r = ap (headed e t later p i) h ∙ ap (with_later later p (names_to t i c)) r
 
@@ -173,7 +170,7 @@ module _ (e : Edition) (t heads commas starts places : List ℕ) (d at uses : �
   -- a header behind the 64th description
   pub read_full : d ≡ descriptions_most → (why : TextRefusal)
       → ((p : ℕ) → one_too_many p (header_at t at) ≡ refused (text_number why) (p ∷ []))
-      → TextReads e t heads commas starts places (R.Refused why at)
+      → TextReads e t heads commas starts places (Err (record { why = why; at = at }))
   unfolding descriptions_at
   read_full q why h =
       let z : descriptions_most - d ≡ 0 = omega arith in
@@ -183,14 +180,10 @@ module _ (e : Edition) (t heads commas starts places : List ℕ) (d at uses : �
       ∙ ap (followed w.done) (h (head_place d at))
       ∙ ap (λ (m : ℕ). refused (text_number why) (m ∷ [])) (sym p)
 
-  module _ (n : d ≡ descriptions_most → ⊥) where
-    pub read_fewer : d < descriptions_most
-    read_fewer = let f = w.few in omega arith
-
+  module _ (b : d < descriptions_most) where
     -- what listing a description asks for
     pub read_lists : (d < length heads) × ((d < length commas) × (d + 1 < length starts))
     read_lists =
-        let b = read_fewer in
         let m₁ = w.many_heads in
         let m₂ = w.many_commas in
         let m₃ = w.many_starts in
@@ -201,11 +194,10 @@ module _ (e : Edition) (t heads commas starts places : List ℕ) (d at uses : �
 
     rest_is : describing e t ≡ followed w.done (descriptions_at e t (suc more) (head_place d at) at)
     rest_is =
-        let b = read_fewer in
         let m : descriptions_most - d ≡ suc more = omega arith in
         w.rest ∙ ap (λ (m : ℕ). followed w.done (descriptions_at e t m (head_place d at) at)) m
 
-    module _ (after : List ℕ) (c count : ℕ) (l : Line) (h : header_at t at ≡ H.Right c)
+    module _ (after : List ℕ) (c count : ℕ) (l : Line) (h : header_at t at ≡ Ok c)
         (p : Passes e t (c + 1) places uses after count l) where
       abbrev one : Description
       one = description (head_place d at) (names_to t at c) p.sayings
@@ -321,7 +313,7 @@ module _ (e : Edition) (t heads commas starts places : List ℕ) (d at uses : �
           ∙ ap (followed w.done) (described_one e t more (head_place d at) at c p.sayings l h p.read)
           ∙ ap by_line q
 
-      last_read : l ≡ End → TextReads e t heads' commas' starts' after (R.Read (d + 1))
+      last_read : l ≡ End → TextReads e t heads' commas' starts' after (Ok (d + 1))
       last_read q =
           let r : describing e t ≡ gives all = described_as End q in
           let s : all ≡ text_descriptions e t = sym (ap descriptions_of r) in (
@@ -367,30 +359,33 @@ module _ (e : Edition) (t heads commas starts places : List ℕ) (d at uses : �
           }
 
     -- by what the description at the place comes to, whose header's refusals give q; the arrays are those after it
-    module _ (after : List ℕ) (q : ℕ) (f : q ≡ head_place d at) (r : DescriptionRead)
-        (x : Describes e t at q places uses after r) where
-      described_by : (y : DescriptionRead) → r ≡ y → Describes e t at (head_place d at) places uses after y
-      described_by y u =
-          subst (λ (z : DescriptionRead). Describes e t at (head_place d at) places uses after z) u
-          (subst (λ (z : ℕ). Describes e t at z places uses after r) f x)
+    module _ (after : List ℕ) (q : ℕ) (f : q ≡ head_place d at) where
+      described_by : (r : Result Described TextRefused) → Describes e t at q places uses after r
+          → Describes e t at (head_place d at) places uses after r
+      described_by r x = subst (λ (z : ℕ). Describes e t at z places uses after r) f x
 
-      pub read_refused : (why : TextRefusal) (p : ℕ) → r ≡ D.Refused why p
-          → TextReads e t heads commas starts after (R.Refused why p)
+      pub read_refused : (r : TextRefused) → Describes e t at q places uses after (Err r)
+          → TextReads e t heads commas starts after (Err r)
       unfolding descriptions_at
-      read_refused why p u =
-          rest_is ∙ ap (followed w.done) (described_by (D.Refused why p) u (λ (j : ℕ). descriptions_at e t more j j))
+      read_refused r x =
+          rest_is ∙ ap (followed w.done) (described_by (Err r) x (λ (j : ℕ). descriptions_at e t more j j))
 
-      module _ (heads₁ commas₁ starts₁ : List ℕ) (c count : ℕ) (h₁ : heads₁ ≡ set heads d at)
-          (h₂ : commas₁ ≡ set commas d c)
-          (h₃ : starts₁ ≡ set starts (d + 1) count) where
-        pub read-last : r ≡ D.Last c count → TextReads e t heads₁ commas₁ starts₁ after (R.Read (d + 1))
+      module _ (r : Described) (x : Describes e t at q places uses after (Ok r)) (heads₁ commas₁ starts₁ : List ℕ)
+          (h₁ : heads₁ ≡ set heads d at)
+          (h₂ : commas₁ ≡ set commas d r.comma)
+          (h₃ : starts₁ ≡ set starts (d + 1) r.passed.uses) where
+        behind_as : (n : Option ℕ) → r.passed.next ≡ n
+            → Passes e t (r.comma + 1) places uses after r.passed.uses (line_behind n)
+        behind_as n u =
+            subst (λ (m : Option ℕ). Passes e t (r.comma + 1) places uses after r.passed.uses (line_behind m)) u x.1.0
+
+        pub read-last : r.passed.next ≡ None → TextReads e t heads₁ commas₁ starts₁ after (Ok (d + 1))
         read-last u =
-            let y = described_by (D.Last c count) u in
-            rw (h₁, h₂, h₃) (last_read after c count End y.0 y.1 refl)
+            rw (h₁, h₂, h₃) (last_read after r.comma r.passed.uses End x.0 (behind_as None u) refl)
 
-        pub read_more : (next : ℕ) → r ≡ D.Followed c next count
-            → ReadTo e t heads₁ commas₁ starts₁ after (d + 1) next count
+        pub read_more : (next : ℕ) → r.passed.next ≡ Some next
+            → ReadTo e t heads₁ commas₁ starts₁ after (d + 1) next r.passed.uses
         read_more next u =
-            let y = described_by (D.Followed c next count) u in
+            let y = x.1.1 next u in
             rw (h₁, h₂, h₃)
-            (one_read after c count (Column next) y.0 y.1.0 next refl y.1.1.0 y.1.1.1)
+            (one_read after r.comma r.passed.uses (Column next) x.0 (behind_as (Some next) u) next refl y.0 y.1)

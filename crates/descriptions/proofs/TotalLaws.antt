@@ -9,6 +9,7 @@ use lib.Dec.{leb}
 use lib.ListN.{length, get_or, drop, length-drop, drop_of_length-le}
 use lib.Seq.{drop-cons, length-take-le}
 use borrow.Author.Tests.{le-leb, lt-leb}
+use Rattle.std.specs.Prelude.{Result, Ok, Err}
 use Rattle.base.specs.If.{when◌then◌else◌}
 use Rattle.base.specs.Answer.{refused}
 use Rattle.edition.specs.declared.Edition.{Edition}
@@ -17,8 +18,8 @@ use Rattle.text.specs.Describing.{Description, description}
 use Rattle.text.specs.Building.{description_at, totals}
 use Rattle.text_laws.specs.HeadingLaws.{header_right}
 use Rattle.compile_laws.specs.Listed.{head_place, Listed}
-use Rattle.descriptions.specs.declared.Total.{Total}
-use Rattle.descriptions.specs.declared.Total.TheVariants as T
+use Rattle.text.specs.declared.TextRefusal.TheVariants as R
+use Rattle.text.specs.declared.TextRefused.{TextRefused}
 use Rattle.descriptions.specs.Reads.{says_total}
 
 module _ (heads commas : List ℕ) (count d : ℕ) where
@@ -30,7 +31,7 @@ module _ (heads commas : List ℕ) (count d : ℕ) where
 
 -- what the totals come to
 module _ (heads commas : List ℕ) (count : ℕ) where
-  abbrev pub TotalsAre : Total → Type 0
+  abbrev pub TotalsAre : Result Unit TextRefused → Type 0
   TotalsAre r =
       (e : Edition) (t : List ℕ) (ds : List Description) → Listed e t heads commas count ds → says_total r ≡ totals ds
 
@@ -38,7 +39,7 @@ pub totals_start : (heads commas : List ℕ) (count : ℕ) → FitBefore heads c
 totals_start heads commas count e t ds w = refl
 
 module _ (heads commas : List ℕ) (count d : ℕ) (f : FitBefore heads commas count d) where
-  pub totals_end : count ≤ d → TotalsAre heads commas count T.Fits
+  pub totals_end : count ≤ d → TotalsAre heads commas count (Ok tt)
   unfolding totals
   totals_end l e t ds w =
       let n = w.counted in
@@ -77,7 +78,7 @@ module _ (heads commas : List ℕ) (count d : ℕ) (f : FitBefore heads commas c
         sym (rw (le-leb (get_or commas d 0 - get_or heads d 0) given_names_most h) at q) ∙ f e t ds w
 
     pub totals_over : given_names_most < get_or commas d 0 - get_or heads d 0 → (p : ℕ)
-        → p ≡ head_place d (get_or heads d 0) → TotalsAre heads commas count (T.Over p)
+        → p ≡ head_place d (get_or heads d 0) → TotalsAre heads commas count (Err (record { why = R.Limit; at = p }))
     totals_over h p r e t ds w =
         let q = totals_one e t ds w in
         ap (λ (i : ℕ). refused 13 (i ∷ [])) r

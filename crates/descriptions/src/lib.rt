@@ -15,37 +15,18 @@ ghost use Rattle.text.specs.Compiling.{text_number};
 ghost use Rattle.compile_laws.specs.Listed.{head_place, Listed, uses_room};
 ghost use Rattle.descriptions.specs.Reads.{Describes, Rooms, TextReads, says_total};
 
-use check_fields::Checked;
+use each_field::Passed;
 use edition::Edition;
 use entry::GIVEN_NAMES_MOST;
-use text::{DESCRIPTIONS_MOST, Header, Line, TextRefusal};
+use text::{DESCRIPTIONS_MOST, Line, TextRefusal, TextRefused};
 
-// What reading a text's descriptions answers.
+// What a description comes to that is right.
 #[derive(Clone, Copy)]
-pub enum TextRead {
-    // how many there are
-    Read(usize),
-    // a refusal, and its place
-    Refused(TextRefusal, usize),
-}
-
-// What the names' totals come to.
-#[derive(Clone, Copy)]
-pub enum Total {
-    Fits,
-    // the place of the first header whose names are above 127 bytes
-    Over(usize),
-}
-
-// What a description comes to.
-#[derive(Clone, Copy)]
-enum DescriptionRead {
-    // the text ends behind it: its header's comma, and how many uses are kept now
-    Last(usize, usize),
-    // a line in column 1 stands behind it: its header's comma, that line's place, and how many uses are kept now
-    Followed(usize, usize, usize),
-    // a refusal, and its place
-    Refused(TextRefusal, usize),
+struct Described {
+    // its header's comma
+    comma: usize,
+    // what its fields come to
+    passed: Passed,
 }
 
 // The place that the refusals of the d-th header give, which stands at a place.
@@ -64,9 +45,8 @@ fn one_too_many(text: &[u8], at: usize) -> TextRefusal
     ensures { (p : ℕ) → one_too_many p (header_at text.now at) ≡ refused (text_number result) (p ∷ []) }
 {
     match text_header::header_at(text, at) {
-        Header::Right(_) => TextRefusal::Limit,
-        Header::Malformed => TextRefusal::Malformed,
-        Header::LongAlias => TextRefusal::Limit,
+        Ok(_) => TextRefusal::Limit,
+        Err(why) => why,
     }
 }
 
@@ -78,20 +58,18 @@ fn description_at(
     edition: Edition,
     places: &mut [u16],
     uses: usize,
-) -> DescriptionRead
+) -> Result<Described, TextRefused>
     requires { (length text.now ≤ text_most) × ((at ≤ length text.now)
         × ((uses_room ≤ length places.old) × (uses * 5 ≤ at))) }
     ensures { Describes edition text.now at place places.old uses
         places.new result }
 {
     match text_header::header_at(text, at) {
-        Header::Right(comma) => match check_fields::check(text, comma + 1, edition, places, uses) {
-            Checked::End(count) => DescriptionRead::Last(comma, count),
-            Checked::Header(next, count) => DescriptionRead::Followed(comma, next, count),
-            Checked::Refused(why, p) => DescriptionRead::Refused(why, p),
-        },
-        Header::Malformed => DescriptionRead::Refused(TextRefusal::Malformed, place),
-        Header::LongAlias => DescriptionRead::Refused(TextRefusal::Limit, place),
+        Ok(comma) => {
+            let passed = check_fields::check(text, comma + 1, edition, places, uses)?;
+            Ok(Described { comma, passed })
+        }
+        Err(why) => Err(TextRefused { why, at: place }),
     }
 }
 
@@ -124,35 +102,31 @@ fn read_from(
     commas: &mut [usize],
     starts: &mut [usize],
     places: &mut [u16],
-) -> TextRead
+) -> Result<usize, TextRefused>
     requires { (line_at text.now 0 ≡ Column first)
         × Rooms text.now heads.old commas.old starts.old places.old }
     ensures { TextReads edition text.now heads.new commas.new
         starts.new places.new result }
 {
-    let mut d = 0;
     let mut at = first;
     let mut uses = 0;
-    loop {
-        if d == DESCRIPTIONS_MOST {
-            return TextRead::Refused(one_too_many(text, at), at);
-        }
-        match description_at(text, at, head_place(d, at), edition, places, uses) {
-            DescriptionRead::Refused(why, p) => {
-                return TextRead::Refused(why, p);
+    for d in 0..DESCRIPTIONS_MOST {
+        let read = description_at(text, at, head_place(d, at), edition, places, uses)?;
+        list(heads, commas, starts, d, at, read.comma, read.passed.uses);
+        match read.passed.next {
+            None => {
+                return Ok(d + 1);
             }
-            DescriptionRead::Last(comma, count) => {
-                list(heads, commas, starts, d, at, comma, count);
-                return TextRead::Read(d + 1);
-            }
-            DescriptionRead::Followed(comma, next, count) => {
-                list(heads, commas, starts, d, at, comma, count);
-                uses = count;
+            Some(next) => {
+                uses = read.passed.uses;
                 at = next;
-                d += 1;
             }
         }
     }
+    Err(TextRefused {
+        why: one_too_many(text, at),
+        at,
+    })
 }
 
 // Reads the descriptions of a text: where the header of each stands and has its comma, the number of its first use,
@@ -164,7 +138,7 @@ pub fn read(
     commas: &mut [usize],
     starts: &mut [usize],
     places: &mut [u16],
-) -> TextRead
+) -> Result<usize, TextRefused>
     requires { (length text.now ≤ text_most) × ((descriptions_most ≤ length heads.old)
         × ((descriptions_most ≤ length commas.old) × ((descriptions_most < length starts.old)
         × ((uses_room ≤ length places.old) × ((d : ℕ) → get_or starts.old d 0 ≡ 0))))) }
@@ -172,28 +146,32 @@ pub fn read(
         starts.new places.new result }
 {
     match text_lines::line_at(text, 0) {
-        Line::End => TextRead::Refused(TextRefusal::Malformed, 0),
+        Line::End => Err(TextRefused {
+            why: TextRefusal::Malformed,
+            at: 0,
+        }),
         Line::Column(first) => read_from(text, first, edition, heads, commas, starts, places),
-        Line::Indented(_) => TextRead::Refused(TextRefusal::Malformed, 0),
+        Line::Indented(_) => Err(TextRefused {
+            why: TextRefusal::Malformed,
+            at: 0,
+        }),
     }
 }
 
-// The first of the descriptions whose names are above 127 bytes.
-pub fn totals(heads: &[usize], commas: &[usize], count: usize) -> Total
+// Refuses the first of the descriptions whose names are above 127 bytes.
+pub fn totals(heads: &[usize], commas: &[usize], count: usize) -> Result<(), TextRefused>
     requires { (count ≤ length heads.now) × ((count ≤ length commas.now)
         × ((d : ℕ) → d < count → get_or heads.now d 0 ≤ get_or commas.now d 0)) }
     ensures { (e : Edition) (t : List ℕ) (ds : List Description)
         → Listed e t heads.now commas.now count ds → says_total result ≡ totals ds }
 {
-    let mut k = 0;
-    while k < count {
-        if GIVEN_NAMES_MOST < commas[k] - heads[k] {
-            if k == 0 {
-                return Total::Over(0);
-            }
-            return Total::Over(heads[k]);
+    for d in 0..count {
+        if GIVEN_NAMES_MOST < commas[d] - heads[d] {
+            return Err(TextRefused {
+                why: TextRefusal::Limit,
+                at: head_place(d, heads[d]),
+            });
         }
-        k += 1;
     }
-    Total::Fits
+    Ok(())
 }

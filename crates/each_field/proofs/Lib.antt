@@ -1,2 +1,3 @@
+pub mod KeepingLaws
 pub mod RecordLaws
 pub mod WalkLaws

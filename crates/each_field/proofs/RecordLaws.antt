@@ -2,9 +2,10 @@
 -- Assumes nothing.
 use mathlib.Core.Path.{◌≡◌, refl, sym, ap, ◌∙◌, subst}
 use mathlib.Core.List.{List, [], ◌∷◌, ◌++◌, map}
-use Prim.Native.Nat.{ℕ, ◌+◌, ◌-◌, ◌*◌, ◌≤◌, ◌<◌}
+use Prim.Native.Nat.{ℕ, ◌+◌, ◌*◌, ◌≤◌, ◌<◌}
 use native.Mathlib.Omega.{arith}
 use lib.ListN.{length, set, length-append}
+use Rattle.std.specs.Prelude.{Option, Some, None, Ok, Err}
 use Rattle.base.specs.Answer.{gives}
 use Rattle.base.specs.Overwrite.{put_at}
 use Rattle.base.proofs.OverwriteLaws.{put_nil, put_set, put_run, length_put}
@@ -15,15 +16,14 @@ use Rattle.text.specs.declared.Line.TheVariants.{End, Column, Indented}
 use Rattle.text.specs.declared.Said.{Said}
 use Rattle.text.specs.declared.Said.TheVariants as S
 use Rattle.text.specs.declared.TextRefusal.{TextRefusal}
-use Rattle.text.specs.declared.FieldJudged.{FieldJudged}
-use Rattle.text.specs.declared.FieldJudged.TheVariants as J
+use Rattle.text.specs.declared.Judged.{Judged}
 use Rattle.text.specs.Bytes.{text_most}
 use Rattle.text.specs.Strings.{read_at, read_bytes}
 use Rattle.text.specs.Lines.{next_at}
 use Rattle.text.specs.Describing.{Saying, nothing, boolean, number, string, uses, Judging, judging}
 use Rattle.text.specs.Describing.{SayingAt, FieldsRead, sayings_read, sayings_from}
 use Rattle.text.specs.Building.{UseAt, with_use, uses_in}
-use Rattle.text.specs.Compiling.{text_number}
+use Rattle.text.specs.Refusals.{text_number}
 use Rattle.text_laws.specs.LineLaws.{LineAfter, next_after}
 use Rattle.text_laws.specs.FieldLaws.{field_after}
 use Rattle.text_laws.specs.JudgingLaws.{judged_field}
@@ -31,7 +31,6 @@ use Rattle.text_laws.specs.SayingsLaws.{read_end, read_column, read_bad, read_fi
 use Rattle.text_laws.specs.UseLaws.{use_field}
 use Rattle.judge.specs.Judged.{saying_said, says_judged}
 use Rattle.compile_laws.specs.Listed.{use_places, uses_room}
-use Rattle.each_field.specs.declared.Passed.TheVariants as C
 use Rattle.each_field.specs.Each.{said_at, uses_said, KeepsUses, Recorded}
 
 -- ---- one field
@@ -39,41 +38,36 @@ use Rattle.each_field.specs.Each.{said_at, uses_said, KeepsUses, Recorded}
 pub use_fits : (s : Said) (before room : ℕ) {i n : ℕ} → s ≡ S.Use i n → before + uses_said s ≤ room → before < room
 use_fits s before room e h = let u : uses_said s ≡ 1 = ap uses_said e in omega arith
 
-module _ (t b : List ℕ) (before p : ℕ) (s : Said) where
-  places_of : (x : Said) → s ≡ x → use_places (said_at t p s) ≡ use_places (said_at t p x)
-  places_of x e = ap (λ (x : Said). use_places (said_at t p x)) e
+module _ (b : List ℕ) (before p : ℕ) (s : Said) where
+  abbrev PutsPlace : List ℕ → Type 0
+  PutsPlace after = (t : List ℕ) → after ≡ put_at b before (use_places (said_at t p s))
 
-  keeps_as_was : use_places (said_at t p s) ≡ [] → KeepsUses b before b before (said_at t p s)
-  keeps_as_was q =
-      let l : length (use_places (said_at t p s)) ≡ 0 = ap length q in
-      record { places = sym (ap (put_at b before) q ∙ put_nil b before); counted = omega arith }
+  places_of : (t : List ℕ) (x : Said) → s ≡ x → use_places (said_at t p s) ≡ use_places (said_at t p x)
+  places_of t x e = ap (λ (x : Said). use_places (said_at t p x)) e
 
-  pub keeps_nothing : s ≡ S.Nothing → KeepsUses b before b before (said_at t p s)
+  as_it_was : (t : List ℕ) → use_places (said_at t p s) ≡ [] → b ≡ put_at b before (use_places (said_at t p s))
+  as_it_was t q = sym (ap (put_at b before) q ∙ put_nil b before)
+
+  pub puts_nothing : s ≡ S.Nothing → PutsPlace b
   unfolding uses_in
-  keeps_nothing e = keeps_as_was (places_of S.Nothing e)
+  puts_nothing e t = as_it_was t (places_of t S.Nothing e)
 
-  pub keeps_boolean : {q : Place} {k : ℕ} → s ≡ S.Boolean q k → KeepsUses b before b before (said_at t p s)
+  pub puts_boolean : {q : Place} {k : ℕ} → s ≡ S.Boolean q k → PutsPlace b
   unfolding uses_in
-  keeps_boolean {q} {k} e = keeps_as_was (places_of (S.Boolean q k) e)
+  puts_boolean {q} {k} e t = as_it_was t (places_of t (S.Boolean q k) e)
 
-  pub keeps_number : {q : Place} {k v : ℕ} → s ≡ S.Number q k v → KeepsUses b before b before (said_at t p s)
+  pub puts_number : {q : Place} {k v : ℕ} → s ≡ S.Number q k v → PutsPlace b
   unfolding uses_in
-  keeps_number {q} {k} {v} e = keeps_as_was (places_of (S.Number q k v) e)
+  puts_number {q} {k} {v} e t = as_it_was t (places_of t (S.Number q k v) e)
 
-  pub keeps_string : {q : Place} {k i n : ℕ} → s ≡ S.String q k i n → KeepsUses b before b before (said_at t p s)
+  pub puts_string : {q : Place} {k i n : ℕ} → s ≡ S.String q k i n → PutsPlace b
   unfolding uses_in
-  keeps_string {q} {k} {i} {n} e = keeps_as_was (places_of (S.String q k i n) e)
+  puts_string {q} {k} {i} {n} e t = as_it_was t (places_of t (S.String q k i n) e)
 
-  pub keeps_use : {i n : ℕ} → s ≡ S.Use i n → before + uses_said s ≤ length b
-      → KeepsUses b before (set b before p) (before + 1) (said_at t p s)
+  pub puts_use : {i n : ℕ} → s ≡ S.Use i n → before + uses_said s ≤ length b → PutsPlace (set b before p)
   unfolding uses_in
-  keeps_use {i} {n} e h =
-      let q : use_places (said_at t p s) ≡ p ∷ [] = places_of (S.Use i n) e in
-      let l : length (use_places (said_at t p s)) ≡ 1 = ap length q in
-      record {
-        places = put_set b before p (use_fits s before (length b) e h) ∙ ap (put_at b before) (sym q);
-        counted = omega arith;
-      }
+  puts_use {i} {n} e h t =
+      put_set b before p (use_fits s before (length b) e h) ∙ ap (put_at b before) (sym (places_of t (S.Use i n) e))
 
 -- ---- the uses among fields
 
@@ -114,12 +108,18 @@ module _ (e : Edition) (t : List ℕ) (i p : ℕ) (q : next_at t i ≡ Indented 
   pub field_place : (i ≤ p) × (p < length t)
   field_place = subst (LineAfter t i) q (next_after t i)
 
-  module _ (j : FieldJudged) (s : Said) (next : ℕ) (r : says_judged t p j ≡ judging e t p) (u : j ≡ J.Said s next) where
+  module _ (j : Judged) (r : says_judged t p (Ok j) ≡ judging e t p) where
+    abbrev s : Said
+    s = j.said
+
+    abbrev next : ℕ
+    next = j.next
+
     abbrev saying : Judging
     saying = record { saying = saying_said t s; next = next }
 
     pub field_judged : judging e t p ≡ gives saying
-    field_judged = sym r ∙ ap (says_judged t p) u
+    field_judged = sym r
 
     pub field_read : FieldRead t i p s next
     field_read =
@@ -145,6 +145,12 @@ module _ (e : Edition) (t : List ℕ) (i p : ℕ) (q : next_at t i ≡ Indented 
             omega arith
 
 -- ---- the fields up to the place i, and the places of their uses
+
+none_some : {A : Type 0} {p : ℕ} → ◌≡◌ {A = Option ℕ} None (Some p) → A
+none_some z = cc
+
+some_is : {p k : ℕ} → ◌≡◌ {A = Option ℕ} (Some p) (Some k) → p ≡ k
+some_is z = cc
 
 pub record Checking (e : Edition) (t : List ℕ) (at : ℕ) (before : List ℕ) (earlier i : ℕ) (now : List ℕ) (count : ℕ) : Type 0 where
   pub sayings : List SayingAt
@@ -180,17 +186,19 @@ module _ (e : Edition) (t : List ℕ) (at : ℕ) (before : List ℕ) (earlier i 
       let r = room in
       ap length w.kept.places ∙ length_put before earlier (use_places w.sayings) (omega arith)
 
-  pub check_end : next_at t i ≡ End → Recorded e t at before earlier now (C.End count)
-  check_end q =
-      record {
-        sayings = w.sayings;
-        read = w.read ∙ read_end e t read_to q;
-        places = w.kept.places;
-        counted = w.kept.counted;
-        room = room;
-      }
+  pub check_end : next_at t i ≡ End → Recorded e t at before earlier now (Ok (record { uses = count; next = None }))
+  check_end q = (
+    record {
+      sayings = w.sayings;
+      read = w.read ∙ read_end e t read_to q;
+      places = w.kept.places;
+      counted = w.kept.counted;
+      room = room;
+    },
+    λ p z. none_some z,
+  )
 
-  pub check_column : (p : ℕ) → next_at t i ≡ Column p → Recorded e t at before earlier now (C.Header p count)
+  pub check_column : (p : ℕ) → next_at t i ≡ Column p → Recorded e t at before earlier now (Ok (record { uses = count; next = Some p }))
   check_column p q =
       let l = subst (LineAfter t i) q (next_after t i) in
       let f = w.few in (
@@ -201,19 +209,19 @@ module _ (e : Edition) (t : List ℕ) (at : ℕ) (before : List ℕ) (earlier i 
           counted = w.kept.counted;
           room = room;
         },
-        (l.1, omega arith),
+        λ k z. let y : p ≡ k = some_is z in (omega arith, omega arith),
       )
 
-  module _ (p : ℕ) (q : next_at t i ≡ Indented p) (j : FieldJudged) (r : says_judged t p j ≡ judging e t p) where
-    pub check_refused : (why : TextRefusal) → j ≡ J.Refused why → Recorded e t at before earlier now (C.Refused why p)
-    check_refused why u =
-        w.read ∙ read_bad e t read_to p (text_number why) (p ∷ []) q (sym r ∙ ap (says_judged t p) u)
+  module _ (p : ℕ) (q : next_at t i ≡ Indented p) where
+    pub check_refused : (why : TextRefusal) → says_judged t p (Err why) ≡ judging e t p
+        → Recorded e t at before earlier now (Err (record { why = why; at = p }))
+    check_refused why r = w.read ∙ read_bad e t read_to p (text_number why) (p ∷ []) q (sym r)
 
-    module _ (s : Said) (next : ℕ) (u : j ≡ J.Said s next) where
+    module _ (j : Judged) (r : says_judged t p (Ok j) ≡ judging e t p) where
       -- what keeping the field's use asks for
-      pub check_fits : (count + uses_said s ≤ length now) × (p < text_most)
+      pub check_fits : (count + uses_said j.said ≤ length now) × (p < text_most)
       check_fits =
-          let f = field_read e t i p q j s next r u in
+          let f = field_read e t i p q j r in
           let f₁ = f.after in
           let f₂ = f.long in
           let f₃ = f.forward in
@@ -222,30 +230,30 @@ module _ (e : Edition) (t : List ℕ) (at : ℕ) (before : List ℕ) (earlier i 
           let l = check_length in
           (omega arith, omega arith)
 
-      pub check_go : (after : List ℕ) (more : ℕ) → KeepsUses now count after more (said_at t p s)
-          → Checking e t at before earlier next after more
-      check_go after more k =
-          let f = field_read e t i p q j s next r u in
+      pub check_go : (after : List ℕ) (more : ℕ) → after ≡ put_at now count (use_places (said_at t p j.said))
+          → more ≡ count + uses_said j.said
+          → Checking e t at before earlier j.next after more
+      check_go after more k d =
+          let f = field_read e t i p q j r in
           let f₁ = f.after in
           let f₂ = f.long in
           let n = w.few in
-          let one : List SayingAt = said_at t p s in
+          let one : List SayingAt = said_at t p j.said in
           let a : use_places (w.sayings ++ one) ≡ use_places w.sayings ++ use_places one =
           places_append w.sayings one in
           let c = w.kept.counted in
-          let d = k.counted in
-          let m = said_count t p s in
+          let m = said_count t p j.said in
           let l = check_fits.0 in
           let l' = check_length in
           let g : length (use_places (w.sayings ++ one)) ≡ length (use_places w.sayings) + length (use_places one) =
           ap length a ∙ length-append (use_places w.sayings) (use_places one) in
           record {
             sayings = w.sayings ++ one;
-            read = w.read ∙ read_field e t read_to p (saying e t i p q j s next r u) q (field_judged e t i p q j s next r u);
+            read = w.read ∙ read_field e t read_to p (saying e t i p q j r) q (field_judged e t i p q j r);
             kept =
                 record {
                   places =
-                      k.places ∙ put_run before now earlier count (use_places w.sayings) (use_places one)
+                      k ∙ put_run before now earlier count (use_places w.sayings) (use_places one)
                       (use_places (w.sayings ++ one)) w.kept.places c a (omega arith);
                   counted = omega arith;
                 };

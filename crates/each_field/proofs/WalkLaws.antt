@@ -1,11 +1,11 @@
 -- Laws of the walk over the fields: what the fields read so far say, what the arrays hold of it, and what the rest of
 -- the text makes of it.
 -- Assumes nothing.
-use mathlib.Core.Path.{◌≡◌, refl, sym, ap, ◌∙◌, subst}
+use mathlib.Core.Path.{◌≡◌, refl, sym, ap, ◌∙◌}
 use mathlib.Core.List.{List, [], ◌∷◌, ◌++◌}
-use Prim.Native.Nat.{ℕ, ◌+◌, ◌-◌, ◌≤◌, ◌<◌}
+use Prim.Native.Nat.{ℕ, ◌+◌}
 use native.Mathlib.Omega.{arith}
-use lib.ListN.{length}
+use Rattle.std.specs.Prelude.{Some, None, Ok, Err}
 use Rattle.edition.specs.declared.Edition.{Edition}
 use Rattle.entry.specs.Reading.{Entry}
 use Rattle.entry.specs.Writing.{Handed}
@@ -13,19 +13,14 @@ use Rattle.text.specs.declared.Line.TheVariants.{End, Column, Indented}
 use Rattle.text.specs.declared.TextRefusal.{TextRefusal}
 use Rattle.text.specs.declared.Said.{Said}
 use Rattle.text.specs.declared.Said.TheVariants as S
-use Rattle.text.specs.declared.FieldJudged.{FieldJudged}
-use Rattle.text.specs.declared.FieldJudged.TheVariants as J
+use Rattle.text.specs.declared.Judged.{Judged}
 use Rattle.text.specs.Lines.{next_at}
 use Rattle.text.specs.Describing.{Saying, nothing, boolean, number, string, uses, with_saying, described}
 use Rattle.text.specs.Describing.{Judging, judging, SayingAt, FieldsRead, fields_to, sayings_read, sayings_from}
 use Rattle.text.specs.Building.{UseAt, with_use, uses_in}
-use Rattle.text.specs.Compiling.{text_number}
-use Rattle.text_laws.specs.LineLaws.{LineAfter, next_after}
-use Rattle.text_laws.specs.FieldLaws.{field_after}
-use Rattle.text_laws.specs.JudgingLaws.{judged_field}
+use Rattle.text.specs.Refusals.{text_number}
 use Rattle.text_laws.specs.SayingsLaws.{read_end, read_column, read_bad, read_field}
 use Rattle.judge.specs.Judged.{saying_said, says_judged}
-use Rattle.each_field.specs.declared.Passed.TheVariants as P
 use Rattle.compile_laws.specs.Held.{text_entry, Holds, Keeps}
 use Rattle.each_field.specs.Each.{said_at, uses_said, Kept}
 
@@ -84,77 +79,40 @@ module _ (e : Edition) (at i count : ℕ) (before now : List ℕ → Handed) (w 
   abbrev read_to : FieldsRead
   read_to = record { at = i; sayings = w.sayings }
 
-  pub walk_end : next_at t i ≡ End → Kept e at before now (P.End count)
+  pub walk_end : next_at t i ≡ End → Kept e at before now (Ok (record { uses = count; next = None }))
   walk_end q =
       record {
         holds = w.holds;
         come = (fields_to w.sayings End, (w.read ∙ read_end e t read_to q, (w.entry, (refl, w.unused))));
       }
 
-  pub walk_column : (p : ℕ) → next_at t i ≡ Column p → Kept e at before now (P.Header p count)
+  pub walk_column : (p : ℕ) → next_at t i ≡ Column p → Kept e at before now (Ok (record { uses = count; next = Some p }))
   walk_column p q =
       record {
         holds = w.holds;
-        come = (fields_to w.sayings (Column p), (w.read ∙ read_column e t read_to p q, w.entry));
+        come = (fields_to w.sayings (Column p), (w.read ∙ read_column e t read_to p q, (w.entry, (refl, w.unused))));
       }
 
-  pub walk_refused : (p : ℕ) (j : FieldJudged) (why : TextRefusal) → next_at t i ≡ Indented p
-      → says_judged t p j ≡ judging e t p
-      → j ≡ J.Refused why → Kept e at before now (P.Refused why p)
-  walk_refused p j why q r u =
-      record {
-        holds = w.holds;
-        come = w.read ∙ read_bad e t read_to p (text_number why) (p ∷ []) q (sym r ∙ ap (says_judged t p) u);
-      }
+  pub walk_refused : (p : ℕ) (why : TextRefusal) → next_at t i ≡ Indented p → says_judged t p (Err why) ≡ judging e t p
+      → Kept e at before now (Err (record { why = why; at = p }))
+  walk_refused p why q r =
+      record { holds = w.holds; come = w.read ∙ read_bad e t read_to p (text_number why) (p ∷ []) q (sym r) }
 
-  pub walk_go : (p : ℕ) (j : FieldJudged) (s : Said) (next : ℕ) (after : List ℕ → Handed) (more : ℕ)
-      → next_at t i ≡ Indented p
-      → says_judged t p j ≡ judging e t p → j ≡ J.Said s next → (now []).lent ≡ t → Keeps e now after s
-      → (more ≡ 0 → (count ≡ 0) × (uses_said s ≡ 0))
-      → Walking e at next more before after
-  walk_go p j s next after more q r u l k o =
-      let saying : Judging = record { saying = saying_said t s; next = next } in
+  pub walk_go : (p : ℕ) (j : Judged) (after : List ℕ → Handed) (more : ℕ) → next_at t i ≡ Indented p
+      → says_judged t p (Ok j) ≡ judging e t p → (now []).lent ≡ t → Keeps e now after j.said
+      → more ≡ count + uses_said j.said
+      → Walking e at j.next more before after
+  walk_go p j after more q r l k o =
+      let s : Said = j.said in
+      let saying : Judging = record { saying = saying_said t s; next = j.next } in
       let last : SayingAt = record { place = p; saying = saying_said t s } in
       record {
         holds = k.holds;
         sayings = w.sayings ++ (last ∷ []);
-        read = w.read ∙ read_field e t read_to p saying q (sym r ∙ ap (says_judged t p) u);
+        read = w.read ∙ read_field e t read_to p saying q (sym r);
         entry = λ n. k.entry n
             ∙ ap (λ (b : List ℕ). with_saying (text_entry e (now n)) (saying_said b s)) l
             ∙ ap (λ (x : Entry). with_saying x (saying_said t s)) (w.entry n)
             ∙ sym (described_more (text_entry e (before n)) w.sayings last);
-        unused = λ z. uses_more w.sayings last (w.unused (o z).0) (no_use t p s (o z).1);
+        unused = λ z. uses_more w.sayings last (w.unused (omega arith)) (no_use t p s (omega arith));
       }
-
--- a field stands in the text, and the next place is past it
-pub walk_place : (t : List ℕ) (i p : ℕ) → next_at t i ≡ Indented p → p < length t
-walk_place t i p q = (subst (LineAfter t i) q (next_after t i)).1
-
-pub walk_forward : (e : Edition) (t : List ℕ) (i p : ℕ) (j : FieldJudged) (s : Said) (next : ℕ) → next_at t i ≡ Indented p
-    → says_judged t p j ≡ judging e t p → j ≡ J.Said s next → length t - next < length t - i
-walk_forward e t i p j s next q r u =
-    let f = judged_field e t p (record { saying = saying_said t s; next = next }) (sym r ∙ ap (says_judged t p) u) in
-    let a = field_after t p f.dropped f.name f.past f.form next f.field in
-    let b = subst (LineAfter t i) q (next_after t i) in
-    let a₁ = a.name in
-    let a₂ = a.some in
-    let a₃ = a.form in
-    omega arith
-
--- there are no more uses than bytes before the place
-pub walk_few : (e : Edition) (t : List ℕ) (i p : ℕ) (j : FieldJudged) (s : Said) (next count more : ℕ)
-    → next_at t i ≡ Indented p
-    → says_judged t p j ≡ judging e t p → j ≡ J.Said s next → count ≤ i → more ≤ count + 1 → more ≤ next
-walk_few e t i p j s next count more q r u l m =
-    let f = judged_field e t p (record { saying = saying_said t s; next = next }) (sym r ∙ ap (says_judged t p) u) in
-    let a = field_after t p f.dropped f.name f.past f.form next f.field in
-    let b = subst (LineAfter t i) q (next_after t i) in
-    let a₁ = a.name in
-    let a₂ = a.some in
-    let a₃ = a.form in
-    omega arith
-
-pub walk_counts : (t : List ℕ) (i p count : ℕ) → next_at t i ≡ Indented p → count ≤ i → count < length t
-walk_counts t i p count q l =
-    let b = subst (LineAfter t i) q (next_after t i) in
-    omega arith

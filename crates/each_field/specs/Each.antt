@@ -1,7 +1,7 @@
 -- What the fields of a description come to, one after the other: their states are kept, or the places of their uses.
 -- Assumes nothing.
-use Rattle.std.specs.Prelude.{◌≡◌, Bool, true, false, List, [], ◌∷◌, ℕ, ◌+◌, ◌*◌, ◌≤◌, ◌<◌, length}
-use Rattle.base.specs.Answer.{Answer, refused, gives}
+use Rattle.std.specs.Prelude.{◌≡◌, List, [], ◌∷◌, ℕ, ◌+◌, ◌*◌, ◌≤◌, ◌<◌, length, Option, Some, None, Result, Ok, Err}
+use Rattle.base.specs.Answer.{Answer, gives}
 use Rattle.base.specs.Overwrite.{put_at}
 use Rattle.edition.specs.declared.Edition.{Edition}
 use Rattle.entry.specs.Writing.{Handed}
@@ -9,15 +9,15 @@ use Rattle.text.specs.declared.Line.{Line}
 use Rattle.text.specs.declared.Line.TheVariants.{End, Column}
 use Rattle.text.specs.declared.Said.{Said}
 use Rattle.text.specs.declared.Said.TheVariants as S
+use Rattle.text.specs.declared.TextRefused.{TextRefused}
 use Rattle.text.specs.Bytes.{text_most}
+use Rattle.text.specs.Refusals.{text_refused}
 use Rattle.text.specs.Describing.{SayingAt, Fields, fields_to, sayings_from, described}
 use Rattle.text.specs.Building.{uses_in}
-use Rattle.text.specs.Compiling.{text_number}
 use Rattle.judge.specs.Judged.{saying_said}
 use Rattle.compile_laws.specs.Held.{text_entry, Holds}
 use Rattle.compile_laws.specs.Listed.{use_places, uses_room}
 use Rattle.each_field.specs.declared.Passed.{Passed}
-use Rattle.each_field.specs.declared.Passed.TheVariants as P
 
 -- what one field of a text says, whose first byte is at p
 abbrev pub said_at : List ℕ → ℕ → Said → List SayingAt
@@ -52,36 +52,33 @@ pub record Passes (e : Edition) (t : List ℕ) (at : ℕ) (before : List ℕ) (u
 abbrev pub KeepsAll : Edition → (before after : List ℕ → Handed) → Fields → Type 0
 KeepsAll e before after f = (n : List ℕ) → text_entry e (after n) ≡ described (text_entry e (before n)) f.sayings
 
--- a is what the fields say; a count of 0 says that none is a use
-abbrev pub FieldsKept : Edition → (before after : List ℕ → Handed) → Answer Fields → Passed → Type 0
-FieldsKept e before after a (P.End count) =
-    (f : Fields) × ((a ≡ gives f) × (KeepsAll e before after f
-    × ((f.behind ≡ End) × (count ≡ 0 → uses_in f.sayings ≡ []))))
-FieldsKept e before after a (P.Header p count) = (f : Fields) × ((a ≡ gives f) × KeepsAll e before after f)
-FieldsKept e before after a (P.Refused why p) = a ≡ refused (text_number why) (p ∷ [])
+-- the line that stands behind the fields
+abbrev pub line_behind : Option ℕ → Line
+line_behind None = End
+line_behind (Some p) = Column p
 
-pub record Kept (e : Edition) (at : ℕ) (before after : List ℕ → Handed) (r : Passed) : Type 0 where
+-- a is what the fields say; a count of 0 says that none is a use
+abbrev pub FieldsKept : Edition → (before after : List ℕ → Handed) → Answer Fields → Result Passed TextRefused → Type 0
+FieldsKept e before after a (Ok r) =
+    (f : Fields) × ((a ≡ gives f) × (KeepsAll e before after f
+    × ((f.behind ≡ line_behind r.next) × (r.uses ≡ 0 → uses_in f.sayings ≡ []))))
+FieldsKept e before after a (Err r) = a ≡ text_refused r
+
+pub record Kept (e : Edition) (at : ℕ) (before after : List ℕ → Handed) (r : Result Passed TextRefused) : Type 0 where
   pub holds : Holds e (after [])
   pub come : FieldsKept e before after (sayings_from e (before []).lent at) r
 
 -- ---- where the places of uses are kept
 
-abbrev pub Recorded : Edition → List ℕ → ℕ → List ℕ → ℕ → List ℕ → Passed → Type 0
-Recorded e t at before uses after (P.End count) = Passes e t at before uses after count End
-Recorded e t at before uses after (P.Header p count) =
-    Passes e t at before uses after count (Column p) × ((p < length t) × (count * 5 ≤ p))
-Recorded e t at before uses after (P.Refused why p) = sayings_from e t at ≡ refused (text_number why) (p ∷ [])
+-- the next header lies in the text, and behind the uses
+abbrev pub NextIn : List ℕ → Passed → Type 0
+NextIn t r = (p : ℕ) → r.next ≡ Some p → (p < length t) × (r.uses * 5 ≤ p)
+
+abbrev pub Recorded : Edition → List ℕ → ℕ → List ℕ → ℕ → List ℕ → Result Passed TextRefused → Type 0
+Recorded e t at before uses after (Ok r) = Passes e t at before uses after r.uses (line_behind r.next) × NextIn t r
+Recorded e t at before uses after (Err r) = sayings_from e t at ≡ text_refused r
 
 -- the text is short, and there is room for the places of the uses behind those that are there
 abbrev pub Room : List ℕ → ℕ → List ℕ → ℕ → Type 0
 Room t at places uses =
     (length t ≤ text_most) × ((at ≤ length t) × ((uses_room ≤ length places) × (uses * 5 ≤ at)))
-
--- ---- one field
-
--- a field's use is counted, and its place kept where places are kept
-pub record Counted (keeping : Bool) (before : List ℕ) (uses : ℕ) (after : List ℕ) (count : ℕ) (p : ℕ)
-    (s : Said) : Type 0 where
-  pub told : keeping ≡ true → count ≡ 0 → (uses ≡ 0) × (uses_said s ≡ 0)
-  pub few : count ≤ uses + 1
-  pub recorded : keeping ≡ false → (t : List ℕ) → KeepsUses before uses after count (said_at t p s)

@@ -1,87 +1,85 @@
 // The fields of a description, one after the other, up to the next header, the text's end or the first bad one
 // (document 01: Source text). One loop serves both of its callers, so that judging a field stands once in the program:
-// the states that the fields give are kept, or the places of the uses among them. Proved: `each` comes to what
-// `sayings_from` of text/specs gives. Assumed: nothing.
+// the states that the fields give are kept, or the places of the uses among them. A loop for each, or a type parameter
+// for what is kept, gives `judge` two callers, and every text pays four instructions per byte. Proved: `each` comes to
+// what `sayings_from` of text/specs gives. Assumed: nothing.
 #![tactic(auto)]
 
-ghost use Rattle.std.specs.Prelude.{◌≡◌, true, false, [], ◌+◌, ◌≤◌, ◌<◌, length};
-ghost use Rattle.entry.specs.Handed.{handed};
-ghost use Rattle.judge.specs.Judged.{SaidIn};
+ghost use Rattle.std.specs.Prelude.{◌≡◌, List, ℕ, [], ◌+◌, ◌≤◌, ◌<◌, length};
+ghost use Rattle.base.specs.Overwrite.{put_at};
 ghost use Rattle.text.specs.Bytes.{text_most};
-ghost use Rattle.compile_laws.specs.Held.{Holds, Keeps};
-ghost use Rattle.each_field.specs.Each.{uses_said, Counted, Kept, Recorded, Room};
+ghost use Rattle.compile_laws.specs.Listed.{use_places};
+ghost use Rattle.each_field.specs.Each.{uses_said, said_at};
+ghost use Rattle.each_field.specs.Keeping.{SameLent, Asks, AsksField, KeepsField, Comes};
 
 use edition::Edition;
-use text::{FieldJudged, Line, Said, TextRefusal};
+use kept_states::States;
+use text::{Line, Said, TextRefused};
 
-// What the fields of a description come to.
+// What is kept of the fields.
+#[derive(Drop)]
+pub enum Keeping<'a> {
+    // their states
+    States(&'a mut States),
+    // the places of the uses among them, behind those that are there
+    Uses(&'a mut [u16]),
+}
+
+// What fields come to that are right.
 #[derive(Clone, Copy)]
-pub enum Passed {
-    // the text ends behind them; how many uses are kept now
-    End(usize),
-    // a line in column 1 stands behind them at this place; how many uses are kept now
-    Header(usize, usize),
-    // a refusal, and the field's first byte
-    Refused(TextRefusal, usize),
+pub struct Passed {
+    // how many uses there are now
+    pub uses: usize,
+    // the line in column 1 that stands behind them, if the text doesn't end there
+    pub next: Option<usize>,
 }
 
-// Keeps what a field says, if states are kept.
-fn keep_state(
-    keeping: bool,
-    text: &[u8],
-    edition: Edition,
-    said: Said,
-    boolean_kinds: &mut [u8],
-    number_kinds: &mut [u8],
-    number_values: &mut [u32],
-    string_kinds: &mut [u8],
-    string_starts: &mut [usize],
-    string_lengths: &mut [usize],
-)
-    requires { keeping ≡ true → SaidIn edition text.now said
-        × Holds edition (handed [] boolean_kinds.old number_kinds.old number_values.old
-        string_kinds.old string_starts.old string_lengths.old text.now) }
-    ensures { keeping ≡ true → Keeps edition (λ n. handed n boolean_kinds.old
-        number_kinds.old number_values.old string_kinds.old
-        string_starts.old string_lengths.old text.now)
-        (λ n. handed n boolean_kinds.new number_kinds.new number_values.new
-        string_kinds.new string_starts.new string_lengths.new
-        text.now) said }
-{
-    if keeping {
-        kept_states::keep(
-            text,
-            edition,
-            said,
-            boolean_kinds,
-            number_kinds,
-            number_values,
-            string_kinds,
-            string_starts,
-            string_lengths,
-        );
-    }
-}
-
-// How many uses there are with a field whose first byte is at p, which is kept, if the field is a use, where places are
-// kept.
-fn count_use(keeping: bool, said: Said, p: usize, places: &mut [u16], uses: usize) -> usize
-    requires { (uses + 1 < 18446744073709551616)
-        × (keeping ≡ false → (uses + uses_said said ≤ length places.old) × (p < text_most)) }
-    ensures { Counted keeping places.old uses places.new result p said }
+// How many uses there are with a field.
+fn count_use(said: Said, uses: usize) -> usize
+    requires { uses + 1 < 18446744073709551616 }
+    ensures { result ≡ uses + uses_said said }
 {
     match said {
         Said::Nothing => uses,
         Said::Boolean(_, _) => uses,
         Said::Number(_, _, _) => uses,
         Said::String(_, _, _, _) => uses,
+        Said::Use(_, _) => uses + 1,
+    }
+}
+
+// Keeps the place of a field whose first byte is at p, if it is a use.
+fn keep_place(places: &mut [u16], uses: usize, said: Said, p: usize)
+    requires { (uses + uses_said said ≤ length places.old) × (p < text_most) }
+    ensures { (t : List ℕ) → places.new ≡ put_at places.old uses (use_places (said_at t p said)) }
+{
+    match said {
+        Said::Nothing => {}
+        Said::Boolean(_, _) => {}
+        Said::Number(_, _, _) => {}
+        Said::String(_, _, _, _) => {}
         Said::Use(_, _) => {
-            if keeping {
-                return uses + 1;
-            }
             places[uses] = p as u16;
-            uses + 1
         }
+    }
+}
+
+// Keeps what is kept of a field whose first byte is at p.
+fn keep_field(
+    text: &[u8],
+    edition: Edition,
+    said: Said,
+    p: usize,
+    keeping: &mut Keeping,
+    uses: usize,
+)
+    requires { AsksField edition text.now said p keeping.old uses }
+    ensures lent { SameLent keeping.old keeping.new }
+    ensures kept { KeepsField edition text.now said p keeping.old uses keeping.new }
+{
+    match keeping {
+        Keeping::States(states) => states.keep(text, edition, said),
+        Keeping::Uses(places) => keep_place(places, uses, said, p),
     }
 }
 
@@ -91,58 +89,37 @@ pub fn each(
     text: &[u8],
     at: usize,
     edition: Edition,
-    keeping: bool,
-    boolean_kinds: &mut [u8],
-    number_kinds: &mut [u8],
-    number_values: &mut [u32],
-    string_kinds: &mut [u8],
-    string_starts: &mut [usize],
-    string_lengths: &mut [usize],
-    places: &mut [u16],
+    keeping: &mut Keeping,
     uses: usize,
-) -> Passed
-    requires { (uses ≤ at) × ((keeping ≡ true → Holds edition (handed [] boolean_kinds.old
-        number_kinds.old number_values.old string_kinds.old string_starts.old string_lengths.old
-        text.now))
-        × (keeping ≡ false → Room text.now at places.old uses)) }
-    ensures { (keeping ≡ true → Kept edition at (λ n. handed n boolean_kinds.old
-        number_kinds.old number_values.old string_kinds.old
-        string_starts.old string_lengths.old text.now)
-        (λ n. handed n boolean_kinds.new number_kinds.new number_values.new
-        string_kinds.new string_starts.new string_lengths.new
-        text.now) result)
-        × (keeping ≡ false → Recorded edition text.now at places.old uses
-        places.new result) }
+) -> Result<Passed, TextRefused>
+    requires { (uses ≤ at) × Asks edition text.now at keeping.old uses }
+    ensures lent { SameLent keeping.old keeping.new }
+    ensures come { Comes edition text.now at keeping.old uses keeping.new result }
 {
     let mut count = uses;
-    let mut i = at;
+    let mut i = at; // a cursor that moves by a field: no range counts it
     loop {
         match text_lines::next_at(text, i) {
             Line::End => {
-                return Passed::End(count);
+                return Ok(Passed {
+                    uses: count,
+                    next: None,
+                });
             }
             Line::Column(p) => {
-                return Passed::Header(p, count);
+                return Ok(Passed {
+                    uses: count,
+                    next: Some(p),
+                });
             }
             Line::Indented(p) => match judge::judge(text, p, edition) {
-                FieldJudged::Refused(why) => {
-                    return Passed::Refused(why, p);
+                Err(why) => {
+                    return Err(TextRefused { why, at: p });
                 }
-                FieldJudged::Said(said, next) => {
-                    keep_state(
-                        keeping,
-                        text,
-                        edition,
-                        said,
-                        boolean_kinds,
-                        number_kinds,
-                        number_values,
-                        string_kinds,
-                        string_starts,
-                        string_lengths,
-                    );
-                    count = count_use(keeping, said, p, places, count);
-                    i = next;
+                Ok(judged) => {
+                    keep_field(text, edition, judged.said, p, keeping, count);
+                    count = count_use(judged.said, count);
+                    i = judged.next;
                 }
             },
         }

@@ -6,8 +6,7 @@ use Rattle.edition.specs.declared.Edition.{Edition}
 use Rattle.edition.specs.declared.Place.{Place}
 use Rattle.edition.specs.Edition.{ok_edition, knows}
 use Rattle.entry.specs.declared.Sizes.{Sizes}
-use Rattle.entry.specs.declared.Tables.{Tables}
-use Rattle.entry.specs.declared.Beyond.{Beyond}
+use Rattle.entry.specs.declared.Opening.{Opening}
 use Rattle.entry.specs.declared.Part.{Part}
 use Rattle.entry.specs.State.{State}
 use Rattle.base.specs.Answer.{Answer, refused, gives, map_answer, is_given}
@@ -15,10 +14,6 @@ use Rattle.entry.specs.Layout.{sizes_of, tables_of, beyond_of}
 use Rattle.entry.specs.Reading.{reading, names_part, boolean_in, number_in, part_in}
 
 -- what opening gives: the tables' places and, per list, how many slots lie beyond the edition
-pub record Opening : Type 0 where
-  pub tables : Tables
-  pub beyond : Beyond
-
 abbrev pub opening_of : Edition → Sizes → Opening
 opening_of e s = record { tables = tables_of s; beyond = beyond_of e s }
 

@@ -53,11 +53,11 @@ pub const PRESENT: u8 = 1;
 pub const CANCELLED: u8 = 2;
 
 // An offset into the string table. Never a place of a list.
-#[derive(Clone, Copy)]
+#[derive(Clone, Copy, PartialEq, Eq)]
 pub struct Offset(pub usize);
 
 // The sizes in a file's header, after the magic: names with their NUL, the three lists' slots, the string table.
-#[derive(Clone, Copy)]
+#[derive(Clone, Copy, PartialEq, Eq)]
 pub struct Sizes {
     pub names: usize,
     pub booleans: usize,
@@ -68,7 +68,7 @@ pub struct Sizes {
 
 // Where an accepted file's tables start and how many slots each list has. The names start at byte 12, and the string
 // table ends where the file ends.
-#[derive(Clone, Copy)]
+#[derive(Clone, Copy, PartialEq, Eq)]
 pub struct Tables {
     pub booleans: usize,
     pub numbers: usize,
@@ -80,7 +80,7 @@ pub struct Tables {
 }
 
 // How many slots of a file lie beyond an edition, in each list.
-#[derive(Clone, Copy)]
+#[derive(Clone, Copy, PartialEq, Eq)]
 pub struct Beyond {
     pub booleans: usize,
     pub numbers: usize,
@@ -88,7 +88,7 @@ pub struct Beyond {
 }
 
 // A part of a file: length bytes from start on.
-#[derive(Clone, Copy)]
+#[derive(Clone, Copy, PartialEq, Eq)]
 pub struct Part {
     pub start: usize,
     pub length: usize,
@@ -96,7 +96,7 @@ pub struct Part {
 
 // Why a file is refused: document 01's numbers 1 to 7; 4 to 7 with the position in the file of the first offending
 // byte or slot.
-#[derive(Clone, Copy)]
+#[derive(Clone, Copy, PartialEq, Eq)]
 pub enum FileRefusal {
     // 1: wrong length
     Length,
@@ -114,64 +114,49 @@ pub enum FileRefusal {
     Slot(usize),
 }
 
-// What judging a file answers, whatever the edition.
-#[derive(Clone, Copy)]
-pub enum Judged {
-    Accepted(Sizes),
-    Refused(FileRefusal),
+// What opening a file in an edition gives.
+#[derive(Clone, Copy, PartialEq, Eq)]
+pub struct Opening {
+    pub tables: Tables,
+    pub beyond: Beyond,
 }
 
-// What opening a file in an edition answers.
-#[derive(Clone, Copy)]
-pub enum Opened {
-    Entry(Tables, Beyond),
-    Refused(FileRefusal),
-}
-
-// A file's names.
-#[derive(Clone, Copy)]
-pub enum Names {
-    // without the NUL
-    At(Part),
-    // 17: opening would refuse
-    Refused,
-}
-
-// A boolean's state.
-#[derive(Clone, Copy)]
-pub enum BooleanState {
+// A capability's state. A boolean is present bare, a number with its value, a string with its content, which is that
+// part of the file. Where a call answers `None` in place of a state it is 17: opening would refuse, or the place is
+// beyond the edition.
+#[derive(Clone, Copy, PartialEq, Eq)]
+pub enum State<T> {
     Absent,
     Cancelled,
-    Present,
-    // 17: opening would refuse, or the place is beyond the edition
-    Refused,
+    Present(T),
 }
 
-// A number's state.
+// The states handed to the writer, by place. Kinds are numbers, not `State`s: the C interface lends them so, and a
+// number that is no kind is refused. Each list may be longer than an edition counts.
 #[derive(Clone, Copy)]
-pub enum NumberState {
-    Absent,
-    Cancelled,
-    Present(u32),
-    // 17: opening would refuse, or the place is beyond the edition
-    Refused,
+pub struct Numbers<'a> {
+    pub kinds: &'a [u8],
+    pub values: &'a [u32],
 }
 
-// A string's state. Its content is that part of the file.
+// Each present string is lengths bytes, from starts on, of what is lent.
 #[derive(Clone, Copy)]
-pub enum StringState {
-    Absent,
-    Cancelled,
-    Present(Part),
-    // 17: opening would refuse, or the place is beyond the edition
-    Refused,
+pub struct Strings<'a> {
+    pub kinds: &'a [u8],
+    pub starts: &'a [usize],
+    pub lengths: &'a [usize],
 }
 
-// What writing answers.
 #[derive(Clone, Copy)]
-pub enum Written {
-    // the file's length
-    File(usize),
+pub struct States<'a> {
+    pub boolean_kinds: &'a [u8],
+    pub numbers: Numbers<'a>,
+    pub strings: Strings<'a>,
+}
+
+// Why nothing is written. A file that is written is answered by its length.
+#[derive(Clone, Copy, PartialEq, Eq)]
+pub enum WriteRefusal {
     // 3: the edition is too large, or there are fewer states than it counts
     Counts,
     // 4: names
@@ -186,11 +171,9 @@ pub enum Written {
     Room(usize),
 }
 
-// What merging answers.
-#[derive(Clone, Copy)]
-pub enum Merged {
-    // the file's length
-    File(usize),
+// Why nothing is merged. A merged file is answered by its length.
+#[derive(Clone, Copy, PartialEq, Eq)]
+pub enum MergeRefusal {
     // 3: the edition is too large
     Edition,
     // 1 to 7 of the first file, with 1 before the position that 4 to 7 give

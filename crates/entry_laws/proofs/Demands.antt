@@ -12,7 +12,8 @@ use Rattle.entry.specs.State.{absent, map_state}
 use Rattle.base.specs.Answer.{Answer, refused, gives, map_answer, is_given}
 use Rattle.entry.specs.Layout.{table_at, tables_of, beyond_of}
 use Rattle.entry.specs.Reading.{Entry, bytes_of, names_part, held_string, edition_of}
-use Rattle.entry.specs.Asking.{Opening, opening_of, opening, asking}
+use Rattle.entry.specs.declared.Opening.{Opening}
+use Rattle.entry.specs.Asking.{opening_of, opening, asking}
 use Rattle.entry.specs.Asking.{asking_string}
 use Rattle.entry.specs.Writing.{Handed, sizes_for, entry_of, number_handed, string_handed}
 use Rattle.entry.specs.Writing.{writing}

@@ -18,7 +18,8 @@ use Rattle.entry.specs.Limits.{file_most, number_most, content_most, given_names
 use Rattle.entry.specs.State.{absent, map_state}
 use Rattle.base.specs.Answer.{Answer, refused, gives, map_answer, is_given}
 use Rattle.entry.specs.Reading.{Entry, bytes_of, held_boolean, held_number, held_string}
-use Rattle.entry.specs.Asking.{Opening, opening, asking_names, asking_boolean, asking_number, asking_string}
+use Rattle.entry.specs.declared.Opening.{Opening}
+use Rattle.entry.specs.Asking.{opening, asking_names, asking_boolean, asking_number, asking_string}
 use Rattle.entry.specs.Writing.{Handed, encode, entry_of, boolean_fits_at}
 use Rattle.entry.specs.Writing.{number_fits_at, string_fits_at, enough_states, names_fit, is_lent, states_fit, writing}
 use Rattle.entry_laws.specs.Sound.{WrittenIn}

@@ -17,10 +17,11 @@ use Rattle.edition.specs.Edition.{ok_edition, knows}
 use Rattle.entry.specs.declared.Sizes.{Sizes}
 use Rattle.entry.specs.declared.Tables.{Tables}
 use Rattle.entry.specs.declared.Beyond.{Beyond}
+use Rattle.entry.specs.declared.Opening.{Opening}
 use Rattle.base.specs.Answer.{Answer, refused, gives, map_answer, is_given}
 use Rattle.entry.specs.Layout.{sizes_of, beyond_of}
 use Rattle.entry.specs.Reading.{reading, names_part, boolean_in, number_in, part_in}
-use Rattle.entry.specs.Asking.{Opening, opening_of, opening, asking, asking_names, asking_boolean, asking_number, asking_string}
+use Rattle.entry.specs.Asking.{opening_of, opening, asking, asking_names, asking_boolean, asking_number, asking_string}
 use Rattle.entry_laws.specs.Accepted.{reading_lines}
 use Rattle.file_positions.specs.Positions.{Values}
 use Rattle.file_positions.proofs.Positions.{positions}

@@ -1,7 +1,8 @@
 -- Entries that hold their file: which numbers opening gives them, and what asking them gives (document 01: Compiled
 -- entry).
 -- Assumes nothing.
-use Rattle.std.specs.Prelude.{Bool, true, ◌&&◌, ◌||◌, List, [], ℕ, eqb, get_or}
+use Rattle.std.specs.Prelude.{◌≡◌, Bool, true, false, ◌&&◌, ◌||◌, List, [], ℕ, eqb, get_or}
+use Rattle.std.specs.Prelude.{Option, Some, None, Result, Ok, Err}
 use Rattle.base.specs.If.{when◌then◌else◌}
 use Rattle.edition.specs.declared.Edition.{Edition}
 use Rattle.edition.specs.declared.Place.{Place}
@@ -11,13 +12,13 @@ use Rattle.entry.specs.declared.Part.{Part}
 use Rattle.entry.specs.State.{State}
 use Rattle.base.specs.Answer.{Answer, refused, gives}
 use Rattle.entry.specs.Layout.{sizes_of, beyond_of}
-use Rattle.entry.specs.Asking.{Opening, opening, asking, asking_names, asking_boolean, asking_number, asking_string}
+use Rattle.entry.specs.declared.Opening.{Opening}
+use Rattle.entry.specs.declared.FileRefusal.{FileRefusal}
+use Rattle.entry.specs.Asking.{opening, asking, asking_names, asking_boolean, asking_number, asking_string}
 use Rattle.entry_numbers.specs.declared.EntryNumbers.{EntryNumbers}
-use Rattle.entry.specs.Says.{refused_file}
+use Rattle.entry.specs.Says.{refused_file, says_file}
 use Rattle.entry_numbers.specs.declared.EntryRefusal.{EntryRefusal}
 use Rattle.entry_numbers.specs.declared.EntryRefusal.TheVariants as E
-use Rattle.entry_numbers.specs.declared.BeyondEdition.{BeyondEdition}
-use Rattle.entry_numbers.specs.declared.BeyondEdition.TheVariants as B
 
 -- what opening answers, as an entry's numbers: on a refusal all are 0 but the refusal's own and its position, which is
 -- 0 where it gives none
@@ -76,17 +77,21 @@ abbrev pub refusal_of : {A : Type 0} → Answer A → Answer (Unit {0})
 refusal_of (refused n v) = refused n v
 refusal_of (gives x) = gives tt
 
--- what opening said of the file; 17, "entry not from opening"
+-- other numbers than opening gives in their edition: those of an edition that was too large, or 17, "entry not from
+-- opening"
+abbrev pub refusal_else : EntryNumbers → Answer (Unit {0})
+refusal_else n = when same n (numbers_of n.edition (refused 3 [])) then refused 3 [] else refused 17 []
+
+-- what opening said of the file
 unfoldable pub entry_refusal : List ℕ → EntryNumbers → Answer (Unit {0})
 entry_refusal f n =
     when same n (opened n.edition f) then refusal_of (opening n.edition f)
-    else when same n (numbers_of n.edition (refused 3 [])) then refused 3 []
-    else refused 17 []
+    else refusal_else n
 
-abbrev pub says_refusal : EntryRefusal → Answer (Unit {0})
-says_refusal E.Accepted = gives tt
-says_refusal (E.File r) = refused_file r
-says_refusal E.NotOpened = refused 17 []
+abbrev pub says_refusal : Result (Unit {0}) EntryRefusal → Answer (Unit {0})
+says_refusal (Ok _) = gives tt
+says_refusal (Err (E.File r)) = refused_file r
+says_refusal (Err E.NotOpened) = refused 17 []
 
 -- "If callers can make an entry without opening, one that opening wouldn't give for its bytes is answered 17 too"
 unfoldable pub asked : {A : Type 0} → List ℕ → EntryNumbers → Answer A → Answer A
@@ -108,6 +113,7 @@ entry_string f n p = asked f n (asking_string n.edition f p)
 abbrev pub entry_beyond : List ℕ → EntryNumbers → Answer Beyond
 entry_beyond f n = asked f n (asking n.edition f true (beyond_of n.edition (sizes_of f)))
 
-abbrev pub says_beyond : BeyondEdition → Answer Beyond
-says_beyond (B.Slots b) = gives b
-says_beyond B.Refused = refused 17 []
+-- what opening answers for the file of an entry that has the numbers which it gives
+abbrev pub OpenedAs : List ℕ → EntryNumbers → Option (Result Opening FileRefusal) → Type 0
+OpenedAs f n (Some r) = (says_file r ≡ opening n.edition f) × (same n (opened n.edition f) ≡ true)
+OpenedAs f n None = same n (opened n.edition f) ≡ false

@@ -3,18 +3,18 @@
 // specs/ says. Assumed: nothing.
 #![tactic(auto)]
 
-ghost use Rattle.std.specs.Prelude.{◌≡◌, ◌+◌, ◌≤◌, length};
+ghost use Rattle.std.specs.Prelude.{◌≡◌, ◌+◌, ◌≤◌, length, Err};
 ghost use Rattle.entry.specs.Asking.{part_given, names_given};
-ghost use Rattle.entry.specs.Says.{says_names, says_boolean, says_number, says_string, says_opened};
+ghost use Rattle.entry.specs.Says.{says_asked, says_file, says_state};
 ghost use Rattle.states.specs.Held.{IsPart};
 ghost use Rattle.entry_numbers.specs.Entries.{entry_refusal, entry_names, entry_boolean, entry_number, entry_string};
-ghost use Rattle.entry_numbers.specs.Entries.{entry_beyond, says_beyond, numbers_of, opened, same_edition};
-ghost use Rattle.entry_numbers.specs.Entries.{same_tables, same_beyond, same, refusal_of, says_refusal};
+ghost use Rattle.entry_numbers.specs.Entries.{entry_beyond, numbers_of, opened, same_edition};
+ghost use Rattle.entry_numbers.specs.Entries.{same_tables, same_beyond, same, says_refusal, refusal_of, refusal_else};
+ghost use Rattle.entry_numbers.specs.Entries.{OpenedAs};
 
 use edition::{Edition, Place};
-use entry::{
-    Beyond, BooleanState, FileRefusal, Names, NumberState, Opened, Part, StringState, Tables,
-};
+use entry::{Beyond, FileRefusal, Opening, Part, State, Tables};
+use refusal_numbers::Refusal;
 
 // What opening gave: the edition, the tables, the slots beyond the edition. On a refusal all are 0 but the refusal's
 // number and, for 4 to 7, its position, which are 0 otherwise.
@@ -27,22 +27,13 @@ pub struct EntryNumbers {
     position: usize,
 }
 
-// What opening said of an entry's file.
+// Why an entry isn't accepted.
 #[derive(Clone, Copy)]
 pub enum EntryRefusal {
-    Accepted,
     // 1 to 7, 4 to 7 with the position
     File(FileRefusal),
     // 17: opening would not give the entry
     NotOpened,
-}
-
-// How many slots lie beyond the edition.
-#[derive(Clone, Copy)]
-pub enum BeyondEdition {
-    Slots(Beyond),
-    // 17: opening would not give the entry
-    Refused,
 }
 
 const NO_EDITION: Edition = Edition {
@@ -76,38 +67,35 @@ const EDITION_REFUSED: EntryNumbers = EntryNumbers {
 };
 
 // What opening in an edition answered, as numbers.
-fn numbers_of(edition: Edition, o: Opened) -> EntryNumbers
-    ensures { result ≡ numbers_of edition (says_opened o) }
+fn numbers_of(edition: Edition, answer: Result<Opening, FileRefusal>) -> EntryNumbers
+    ensures { result ≡ numbers_of edition (says_file answer) }
 {
-    match o {
-        Opened::Entry(tables, beyond) => EntryNumbers {
+    match answer {
+        Ok(opening) => EntryNumbers {
             edition,
-            tables,
-            beyond,
+            tables: opening.tables,
+            beyond: opening.beyond,
             refusal: 0,
             position: 0,
         },
-        Opened::Refused(why) => {
-            let refusal = refusal_numbers::of_file(why) as usize;
-            let position = refusal_numbers::position(why);
-            EntryNumbers {
-                edition: NO_EDITION,
-                tables: NO_TABLES,
-                beyond: NO_BEYOND,
-                refusal,
-                position,
-            }
-        }
+        Err(why) => EntryNumbers {
+            edition: NO_EDITION,
+            tables: NO_TABLES,
+            beyond: NO_BEYOND,
+            refusal: why.number() as usize,
+            position: why.value(),
+        },
     }
 }
 
 pub fn numbers_in(file: &[u8], edition: Edition) -> EntryNumbers
     ensures { result ≡ opened edition file.now }
 {
-    let o = read::open(file, edition);
-    numbers_of(edition, o)
+    numbers_of(edition, read::open(file, edition))
 }
 
+// By hand and without a branch, which a derived `==` has at each field: asking has a bar of speed, and the edits
+// table_start_not_compared and position_not_compared turn a field's comparison.
 fn same_edition(a: Edition, b: Edition) -> bool
     ensures { result ≡ same_edition a b }
 {
@@ -140,89 +128,79 @@ fn same_numbers(a: EntryNumbers, b: EntryNumbers) -> bool
                 & ((a.refusal == b.refusal) & (a.position == b.position))))
 }
 
-// What opening said, but for what it gives.
-fn refusal_of(o: Opened) -> EntryRefusal
-    ensures { says_refusal result ≡ refusal_of (says_opened o) }
-{
-    match o {
-        Opened::Entry(_, _) => EntryRefusal::Accepted,
-        Opened::Refused(why) => EntryRefusal::File(why),
-    }
-}
-
-pub fn refusal_in(file: &[u8], n: EntryNumbers) -> EntryRefusal
-    ensures { says_refusal result ≡ entry_refusal file.now n }
+// What opening the file answers, where the entry has the numbers that it gives.
+fn opened_as(file: &[u8], n: EntryNumbers) -> Option<Result<Opening, FileRefusal>>
+    ensures { OpenedAs file.now n result }
 {
     let e = n.edition;
-    let o = read::open(file, e);
-    if same_numbers(n, numbers_of(e, o)) {
-        return refusal_of(o);
+    let answer = read::open(file, e);
+    if same_numbers(n, numbers_of(e, answer)) {
+        return Some(answer);
     }
+    None
+}
+
+// What an entry is refused for that has none of the numbers which opening gives in its edition.
+fn refusal_else(n: EntryNumbers) -> EntryRefusal
+    ensures { says_refusal (Err result) ≡ refusal_else n }
+{
     if same_numbers(n, EDITION_REFUSED) {
         return EntryRefusal::File(FileRefusal::Counts);
     }
     EntryRefusal::NotOpened
 }
 
-pub fn names_in(file: &[u8], n: EntryNumbers) -> Names
-    ensures { says_names result ≡ entry_names file.now n }
+// What opening said, but for what it gives.
+fn refusal_of(answer: Result<Opening, FileRefusal>) -> Result<(), EntryRefusal>
+    ensures { says_refusal result ≡ refusal_of (says_file answer) }
 {
-    let e = n.edition;
-    let o = read::open(file, e);
-    if !same_numbers(n, numbers_of(e, o)) {
-        return Names::Refused;
-    }
-    match o {
-        Opened::Entry(t, _) => Names::At(opened_file::names_opened(file, e, t)),
-        Opened::Refused(_) => Names::Refused,
+    match answer {
+        Ok(_) => Ok(()),
+        Err(why) => Err(EntryRefusal::File(why)),
     }
 }
 
-pub fn boolean_in(file: &[u8], n: EntryNumbers, place: Place) -> BooleanState
-    ensures { says_boolean result ≡ entry_boolean file.now n place }
+// What opening said of the file of an entry.
+pub fn refusal_in(file: &[u8], n: EntryNumbers) -> Result<(), EntryRefusal>
+    ensures { says_refusal result ≡ entry_refusal file.now n }
 {
-    let e = n.edition;
-    let o = read::open(file, e);
-    if !same_numbers(n, numbers_of(e, o)) {
-        return BooleanState::Refused;
+    match opened_as(file, n) {
+        Some(answer) => refusal_of(answer),
+        None => Err(refusal_else(n)),
     }
-    opened_file::boolean_if_opened(file, e, o, place)
 }
 
-pub fn number_in(file: &[u8], n: EntryNumbers, place: Place) -> NumberState
-    ensures { says_number result ≡ entry_number file.now n place }
+pub fn names_in(file: &[u8], n: EntryNumbers) -> Option<Part>
+    ensures { says_asked result ≡ entry_names file.now n }
 {
-    let e = n.edition;
-    let o = read::open(file, e);
-    if !same_numbers(n, numbers_of(e, o)) {
-        return NumberState::Refused;
-    }
-    opened_file::number_if_opened(file, e, o, place)
+    let opening = opened_as(file, n)?.ok()?;
+    Some(opened_file::names_opened(file, n.edition, opening.tables))
 }
 
-pub fn string_in(file: &[u8], n: EntryNumbers, place: Place) -> StringState
-    ensures { says_string result ≡ entry_string file.now n place }
+pub fn boolean_in(file: &[u8], n: EntryNumbers, place: Place) -> Option<State<()>>
+    ensures { says_state result ≡ entry_boolean file.now n place }
 {
-    let e = n.edition;
-    let o = read::open(file, e);
-    if !same_numbers(n, numbers_of(e, o)) {
-        return StringState::Refused;
-    }
-    opened_file::string_if_opened(file, e, o, place)
+    opened_file::boolean_if_opened(file, n.edition, opened_as(file, n)?, place)
 }
 
-pub fn beyond_in(file: &[u8], n: EntryNumbers) -> BeyondEdition
-    ensures { says_beyond result ≡ entry_beyond file.now n }
+pub fn number_in(file: &[u8], n: EntryNumbers, place: Place) -> Option<State<u32>>
+    ensures { says_state result ≡ entry_number file.now n place }
 {
-    let e = n.edition;
-    let o = read::open(file, e);
-    if !same_numbers(n, numbers_of(e, o)) {
-        return BeyondEdition::Refused;
-    }
-    match o {
-        Opened::Entry(_, b) => BeyondEdition::Slots(b),
-        Opened::Refused(_) => BeyondEdition::Refused,
-    }
+    opened_file::number_if_opened(file, n.edition, opened_as(file, n)?, place)
+}
+
+pub fn string_in(file: &[u8], n: EntryNumbers, place: Place) -> Option<State<Part>>
+    ensures { says_state result ≡ entry_string file.now n place }
+{
+    opened_file::string_if_opened(file, n.edition, opened_as(file, n)?, place)
+}
+
+// How many slots lie beyond the edition; none (17) where opening would not give the entry.
+pub fn beyond_in(file: &[u8], n: EntryNumbers) -> Option<Beyond>
+    ensures { says_asked result ≡ entry_beyond file.now n }
+{
+    let opening = opened_as(file, n)?.ok()?;
+    Some(opening.beyond)
 }
 
 // The empty part at a file's start.
@@ -233,25 +211,23 @@ const NO_PART: Part = Part {
 
 // The bytes of names that lie in the file; the empty part at the file's start where they are refused. Names are never
 // empty.
-pub fn names_bytes(file: &[u8], names: Names) -> &[u8]
-    requires { (names_given (says_names names)).start + (names_given (says_names names)).length ≤ length file.now }
-    ensures { IsPart file.entry result (names_given (says_names names)) }
+pub fn names_bytes(file: &[u8], names: Option<Part>) -> &[u8]
+    requires { (names_given (says_asked names)).start + (names_given (says_asked names)).length ≤ length file.now }
+    ensures { IsPart file.entry result (names_given (says_asked names)) }
 {
     match names {
-        Names::At(p) => states::part(file, p),
-        Names::Refused => states::part(file, NO_PART),
+        Some(p) => states::part(file, p),
+        None => states::part(file, NO_PART),
     }
 }
 
 // The bytes of a content that lies in the file; the empty part at the file's start where the state has none.
-pub fn string_bytes(file: &[u8], state: StringState) -> &[u8]
-    requires { (part_given (says_string state)).start + (part_given (says_string state)).length ≤ length file.now }
-    ensures { IsPart file.entry result (part_given (says_string state)) }
+pub fn string_bytes(file: &[u8], state: Option<State<Part>>) -> &[u8]
+    requires { (part_given (says_state state)).start + (part_given (says_state state)).length ≤ length file.now }
+    ensures { IsPart file.entry result (part_given (says_state state)) }
 {
     match state {
-        StringState::Present(p) => states::part(file, p),
-        StringState::Absent => states::part(file, NO_PART),
-        StringState::Cancelled => states::part(file, NO_PART),
-        StringState::Refused => states::part(file, NO_PART),
+        Some(State::Present(p)) => states::part(file, p),
+        _ => states::part(file, NO_PART),
     }
 }

@@ -14,7 +14,7 @@ ghost use Rattle.arguments.specs.Judged.{AllJudged, NoneLonger};
 ghost use Rattle.expand_output.specs.Answers.{ExpandedAs, LentAs};
 
 use expand_output::expand_into;
-use expansion::{Argument, Expanded, Expansion, Lasting};
+use expansion::{Argument, Expanded, ExpansionRefusal, Lasting, Output};
 
 // The longest string.
 const STRING_MOST: usize = 1000;
@@ -30,7 +30,7 @@ fn expand_judged(
     lasting: &mut [i32; 26],
     out: &mut [u8],
     at: usize,
-) -> Expansion
+) -> Result<Output, ExpansionRefusal>
     requires { (at ≤ length out.old) × (length string.now ≤ string_most) × AllJudged texts.now arguments }
     ensures { (most : ℕ) → NoneLonger most arguments
         → LentAs (length string.now) (room_with most string.now)
@@ -60,7 +60,7 @@ pub fn expand_texts_lent(
     lasting: &mut [i32; 26],
     out: &mut [u8],
     at: usize,
-) -> Expansion
+) -> Result<Output, ExpansionRefusal>
     ensures { LentAs (length string.now) (room_of string.now)
         (expanding string.now arguments texts.now lasting.old
         (length out.old) at) lasting.old lasting.new out.old at
@@ -69,16 +69,16 @@ pub fn expand_texts_lent(
     let lie = arguments::all_lie_in(arguments, texts.len());
     let are_short = arguments::all_short(arguments);
     if out.len() < at { // first 17
-        return Expansion::Place; // the output's
+        return Err(ExpansionRefusal::Place); // the output's
     }
     if !lie {
-        return Expansion::Place; // a text's
+        return Err(ExpansionRefusal::Place); // a text's
     }
     if STRING_MOST < string.len() { // then 1
-        return Expansion::Length; // the string's
+        return Err(ExpansionRefusal::Length); // the string's
     }
     if !are_short {
-        return Expansion::Length; // a text's
+        return Err(ExpansionRefusal::Length); // a text's
     }
     expand_judged(string, arguments, texts, lasting, out, at)
 }
@@ -90,17 +90,17 @@ pub fn expand_lent(
     lasting: &mut [i32; 26],
     out: &mut [u8],
     at: usize,
-) -> Expansion
+) -> Result<Output, ExpansionRefusal>
     ensures { LentAs (length string.now) (room_for (length string.now))
         (expanding string.now (numbers_given arguments) [] lasting.old
         (length out.old) at) lasting.old lasting.new out.old at
         out.new result }
 {
     if out.len() < at {
-        return Expansion::Place;
+        return Err(ExpansionRefusal::Place);
     }
     if STRING_MOST < string.len() {
-        return Expansion::Length;
+        return Err(ExpansionRefusal::Length);
     }
     expand_judged(string, arguments::numbers(arguments), b"", lasting, out, at)
 }
@@ -122,7 +122,7 @@ pub fn expand_texts(
     let mut kept = lasting.values;
     let answer = expand_texts_lent(string, arguments, texts, &mut kept, out, at);
     Expanded {
-        answer: answer,
+        answer,
         lasting: Lasting { values: kept }, // as the call left them
     }
 }
@@ -142,7 +142,7 @@ pub fn expand(
     let mut kept = lasting.values;
     let answer = expand_lent(string, arguments, &mut kept, out, at);
     Expanded {
-        answer: answer,
+        answer,
         lasting: Lasting { values: kept },
     }
 }

@@ -10,21 +10,21 @@ use lib.ListN.{length, take, drop}
 use lib.Seq.{drop-drop, length-take-le}
 use borrow.Rule.Slice.PartMut.{mid_of, put_mid, mid_len, same_len_mid, drop_put}
 use Rattle.base.specs.Overwrite.{put_at}
-use Rattle.base.specs.Answer.{refused}
 use Rattle.expansion.specs.declared.Argument.{Argument}
-use Rattle.expansion.specs.declared.Expansion.{Expansion}
-use Rattle.expansion.specs.declared.Expansion.TheVariants as E
+use Rattle.std.specs.Prelude.{Result, Ok, Err}
+use Rattle.expansion.specs.declared.Output.{Output}
+use Rattle.expansion.specs.declared.ExpansionRefusal.{ExpansionRefusal}
+use Rattle.expansion.specs.declared.ExpansionRefusal.TheVariants as E
 use Rattle.expansion.specs.Machine.{Machine, Outcome, finished}
 use Rattle.expansion.specs.Counting.{room_with}
-use Rattle.expansion.specs.Expanding.{ended, says_expansion, Within}
+use Rattle.expansion.specs.Expanding.{ended}
 use Rattle.arguments.specs.Judged.{NoneLonger}
-use Rattle.expand_run.specs.declared.Ran.{Ran}
-use Rattle.expand_run.specs.declared.Ran.TheVariants.{Done, Empty, Full, Kind}
-use Rattle.expand_run.specs.Runs.{says_ran, RanAs, PutAs, RanWithin, RunAs}
+use Rattle.expand_run.specs.declared.RunRefusal.{RunRefusal}
+use Rattle.expand_run.specs.Runs.{refusal_of, RanAs, PutAs, RunAs}
 use Rattle.expand_output.specs.Answers.{LentAs, KeptAs}
 use Rattle.expand_output.proofs.BufferLaws.{front_is, part_put, put_back, put_over}
 use Rattle.expand_output.proofs.AnswerLaws as A
-use Rattle.expand_output.proofs.AnswerLaws.{Finished, no_failure, done_finished}
+use Rattle.expand_output.proofs.AnswerLaws.{Finished, done_finished}
 
 -- a buffer's bytes were b₀ and are b, and its first `end` bytes are lent to a run with outcome y: in the first turn as many as are kept, in the
 -- second as many as the output has
@@ -56,22 +56,29 @@ trying_start {f} {v} {kept₀} {kept} {b} {first} k l =
       turn = one refl refl;
     }
 
+-- why a turn is refused whose run answers r: the run is, or the buffer has only size bytes
+pub data Refuses (r : Result Output RunRefusal) (size : ℕ) (x : ExpansionRefusal) : Type 0 where
+  stopped : (f : RunRefusal) → r ≡ Err f → x ≡ refusal_of f → Refuses r size x
+  no_room : (o : Output) → r ≡ Ok o → size < o.length → x ≡ E.Room o.length → Refuses r size x
+
 -- the run of a string s answers r, and after it the variables are w, and the part that was lent holds p
 module _ {f : List ℤ → Outcome} {v₀ v : List ℤ} {kept b₀ b : List ℕ} {first end : ℕ} (T : Trying f v₀ v kept b₀ b first end)
-    {s : List ℕ} {arguments : List Argument} {r : Ran} {w : List ℤ} {p : List ℕ} (R : RunAs s arguments (f v) (mid_of 0 (end - 0) b) r w p)
-    (q : length p ≡ length (mid_of 0 (end - 0) b)) where
+    {s : List ℕ} {arguments : List Argument} {r : Result Output RunRefusal} {w : List ℤ} {p : List ℕ} (R : RunAs s arguments (f v) (mid_of 0 end b) r w p)
+    (q : length p ≡ length (mid_of 0 end b)) where
   abbrev after : List ℕ
-  after = put_mid 0 (end - 0) b p
+  after = put_mid 0 end b p
 
-  lent : length (mid_of 0 (end - 0) b) ≡ end - 0
-  lent = mid_len 0 end b (omega (arith, T.inside, T.same))
+  lent : length (mid_of 0 end b) ≡ end
+  lent = let z : end - 0 ≡ end = omega arith in rw z at (mid_len 0 end b (omega (arith, T.inside, T.same)))
 
   pub after_same : length after ≡ length b₀
-  after_same = same_len_mid 0 (end - 0) b p q ∙ T.same
+  after_same = same_len_mid 0 end b p q ∙ T.same
 
   -- the bytes behind the part
   behind : drop end after ≡ drop end b₀
-  behind = drop_put 0 end b p (omega arith) (omega (arith, T.inside, T.same)) (q ∙ lent) ∙ by_turn T.turn
+  behind =
+      let z : end - 0 ≡ end = omega arith in
+      rw z at (drop_put 0 end b p (omega arith) (omega (arith, T.inside, T.same)) (q ∙ lent ∙ sym z)) ∙ by_turn T.turn
     where
       by_turn : Turn (f v₀) b₀ b first end → drop end b ≡ drop end b₀
       by_turn (one e g) = ap (drop end) e
@@ -94,89 +101,65 @@ module _ {f : List ℤ → Outcome} {v₀ v : List ℤ} {kept b₀ b : List ℕ}
   none_held x = omega (arith, (none_first x).1, T.held)
 
   -- and it is put back
-  back : NoneFits → put_at after 0 (take end kept) ≡ b₀
+  back : NoneFits → put_mid 0 end after (take end kept) ≡ b₀
   back x =
       let e = (none_first x).0 in
       let g : take end kept ≡ take end b = rw ((none_first x).1, e) T.bytes in
-      rw g (put_back end b p (omega (arith, T.inside, T.same)) (q ∙ lent ∙ (let z : end - 0 ≡ end = omega arith in z)) ∙ e)
+      rw g (put_back end b p (omega (arith, T.inside, T.same)) (q ∙ lent) ∙ e)
 
-  ran : RunAs s arguments (f v₀) (mid_of 0 (end - 0) b) r w p
+  ran : RunAs s arguments (f v₀) (mid_of 0 end b) r w p
   ran = rw T.lasting at R
 
-  -- a run that fails
-  failed_none : {k : ℕ} {is : List ℕ} → says_ran r ≡ refused k is → NoneFits
-  failed_none e = λ m o j z _. no_failure (subst (λ (y : Outcome). RanAs y r w) z ran.answer).0 e
+  end_of : {o : Output} → r ≡ Ok o → Finished (f v₀) w o.length o.steps
+  end_of d = done_finished (f v₀) w d ran.answer
 
-  pub empty_held : {i : ℕ} → r ≡ Empty i → end ≤ length kept
-  empty_held e = none_held (failed_none (ap says_ran e))
+  -- the output is that of any run that finishes
+  one_output : {o : Output} → r ≡ Ok o → {m : Machine} {c : List ℕ} {j : ℕ} → f v₀ ≡ finished m c j → length c ≡ o.length
+  one_output d {m} {c} {j} e = let g = end_of d in let x = g.is in let z : c ≡ g.output = cc in ap length z ∙ g.long
 
-  pub full_held : {i : ℕ} → r ≡ Full i → end ≤ length kept
-  full_held e = none_held (failed_none (ap says_ran e))
+  refuses_none : {x : ExpansionRefusal} → Refuses r (length after) x → NoneFits
+  refuses_none (stopped g e h) m c j i z =
+      let q = (subst (λ (y : Outcome). RanAs y r w) i ran.answer).0 in
+      let y : ◌≡◌ {A = ℕ} 0 1 = cc in (let u : ⊥ = omega arith in u)
+  refuses_none (no_room o d h g) m c j i z = let x : ⊥ = omega (arith, after_same, one_output d i) in x
 
-  pub kind_held : {i : ℕ} → r ≡ Kind i → end ≤ length kept
-  kind_held e = none_held (failed_none (ap says_ran e))
+  pub refuses_held : {x : ExpansionRefusal} → Refuses r (length after) x → end ≤ length kept
+  refuses_held n = none_held (refuses_none n)
 
   -- x is the answer, and after it the variables are v', and the buffer holds b'
-  abbrev Answered : List ℤ → List ℕ → Expansion → Type 0
+  abbrev Answered : List ℤ → List ℕ → Result Output ExpansionRefusal → Type 0
   Answered v' b' x = (most : ℕ) → NoneLonger most arguments → LentAs (length s) (room_with most s) (ended (f v₀) (length b₀)) v₀ v' b₀ 0 b' x
 
-  turn_refused : {x : Expansion} {k : ℕ} {is b' : List ℕ} → says_ran r ≡ refused k is → says_expansion x ≡ refused k is
-      → ((most : ℕ) → NoneLonger most arguments → Within (length s) (room_with most s) x) → b' ≡ put_at after 0 (take end kept) → Answered v₀ b' x
-  turn_refused {x} {k} {is} {b'} e g i h most j =
-      let a : b' ≡ b₀ = h ∙ back (failed_none e) in
-      rw a (A.answer_refused (length s) (room_with most s) (length b₀) v₀ b₀ (f v₀) r w ran.answer e g (i most j))
+  refused : {x : ExpansionRefusal} → Refuses r (length after) x → Answered v₀ b₀ (Err x)
+  refused (stopped g e h) most j =
+      rw h (A.answer_refused (length s) (room_with most s) (length b₀) v₀ b₀ (f v₀) w ran.answer e (rw e at (ran.within most j)))
+  refused (no_room o d h g) most j =
+      rw g (A.answer_room (length s) (room_with most s) (length b₀) v₀ b₀ (end_of d) (omega (arith, after_same)) (rw d at (ran.within most j)).0)
 
-  pub turn_empty : {i : ℕ} {b' : List ℕ} → r ≡ Empty i → b' ≡ put_at after 0 (take end kept) → Answered v₀ b' (E.Empty i)
-  turn_empty e h = turn_refused (ap says_ran e) refl (λ most j. rw e at (ran.within most j)) h
+  pub turn_refused : {x : ExpansionRefusal} {ys : List ℕ} → Refuses r (length after) x → ys ≡ take end kept
+      → Answered v₀ (put_mid 0 end after ys) (Err x)
+  turn_refused n e = rw (e, back (refuses_none n)) (refused n)
 
-  pub turn_full : {i : ℕ} {b' : List ℕ} → r ≡ Full i → b' ≡ put_at after 0 (take end kept) → Answered v₀ b' (E.Full i)
-  turn_full e h = turn_refused (ap says_ran e) refl (λ most j. rw e at (ran.within most j)) h
-
-  pub turn_kind : {i : ℕ} {b' : List ℕ} → r ≡ Kind i → b' ≡ put_at after 0 (take end kept) → Answered v₀ b' (E.Kind i)
-  turn_kind e h = turn_refused (ap says_ran e) refl (λ most j. rw e at (ran.within most j)) h
-
-  module _ {l k : ℕ} (d : r ≡ Done l k) where
-    end_of : Finished (f v₀) w l k
-    end_of = done_finished (f v₀) w d ran.answer
-
-    bounds : (most : ℕ) → NoneLonger most arguments → RanWithin (length s) (room_with most s) (Done l k)
-    bounds most j = rw d at (ran.within most j)
-
-    -- it is the output of any run that finishes
-    one_output : {m : Machine} {o : List ℕ} {j : ℕ} → f v₀ ≡ finished m o j → length o ≡ l
-    one_output {m} {o} {j} e = let x = end_of.is in let z : o ≡ end_of.output = cc in ap length z ∙ end_of.long
-
-    -- a run whose output has no room
-    room_none : length after < l → NoneFits
-    room_none h m o j i z = let x : ⊥ = omega (arith, after_same, one_output i) in x
-
-    pub room_held : length after < l → end ≤ length kept
-    room_held h = none_held (room_none h)
-
-    pub turn_room : {b' : List ℕ} → length after < l → b' ≡ put_at after 0 (take end kept) → Answered v₀ b' (E.Room l)
-    turn_room {b'} h e most j =
-        let a : b' ≡ b₀ = e ∙ back (room_none h) in
-        rw a (A.answer_room (length s) (room_with most s) (length b₀) v₀ b₀ end_of (omega (arith, after_same)) (bounds most j).0)
-
+  module _ {o : Output} (d : r ≡ Ok o) where
     -- a run whose output is in the part
-    pub turn_done : l ≤ end → Answered w after (E.Done l k)
+    pub turn_done : o.length ≤ end → Answered w after (Ok o)
     turn_done h most j =
-        A.answer_given (length s) (room_with most s) (length b₀) v₀ b₀ end_of (omega (arith, T.inside)) (bounds most j)
-        (ap (put_mid 0 (end - 0) b) (written (omega (arith, end_of.long, lent)))
-        ∙ part_put 0 (end - 0) b end_of.output (omega (arith, T.inside, T.same)) (omega (arith, end_of.long))
-        ∙ put_over b b₀ end_of.output (by_turn T.turn))
+        A.answer_given (length s) (room_with most s) (length b₀) v₀ b₀ (end_of d) (omega (arith, T.inside)) (rw d at (ran.within most j))
+        (ap (put_mid 0 end b) (written (omega (arith, (end_of d).long, lent)))
+        ∙ part_put 0 end b (end_of d).output (omega (arith, T.inside, T.same)) (omega (arith, (end_of d).long))
+        ∙ put_over b b₀ (end_of d).output (by_turn T.turn))
       where
-        written : length end_of.output ≤ length (mid_of 0 (end - 0) b) → p ≡ put_at (mid_of 0 (end - 0) b) 0 end_of.output
-        written = subst (λ (y : Outcome). PutAs y (mid_of 0 (end - 0) b) p) end_of.is ran.output
+        written : length (end_of d).output ≤ length (mid_of 0 end b) → p ≡ put_at (mid_of 0 end b) 0 (end_of d).output
+        written = subst (λ (y : Outcome). PutAs y (mid_of 0 end b) p) (end_of d).is ran.output
 
-        by_turn : Turn (f v₀) b₀ b first end → drop (length end_of.output) b ≡ drop (length end_of.output) b₀
-        by_turn (one e g) = ap (drop (length end_of.output)) e
-        by_turn (two m o k i g z) =
-            let x : length end_of.output ≡ end = omega (arith, one_output i, end_of.long) in
+        by_turn : Turn (f v₀) b₀ b first end → drop (length (end_of d).output) b ≡ drop (length (end_of d).output) b₀
+        by_turn (one e g) = ap (drop (length (end_of d).output)) e
+        by_turn (two m c k i g z) =
+            let x : length (end_of d).output ≡ end = omega (arith, one_output d i, (end_of d).long) in
             rw x z
 
     -- a run whose output needs a longer part, and the variables as they came
-    pub turn_again : l ≤ length after → end < l → Trying f v₀ v₀ kept b₀ after first l
+    pub turn_again : o.length ≤ length after → end < o.length → Trying f v₀ v₀ kept b₀ after first o.length
     turn_again h g =
         record {
           lasting = refl;
@@ -185,10 +168,10 @@ module _ {f : List ℤ → Outcome} {v₀ v : List ℤ} {kept b₀ b : List ℕ}
           enough = T.enough;
           inside = omega (arith, after_same);
           same = after_same;
-          turn = two end_of.end end_of.output k end_of.is (sym end_of.long) further;
+          turn = two (end_of d).end (end_of d).output o.steps (end_of d).is (sym (end_of d).long) further;
         }
       where
-        further : drop l after ≡ drop l b₀
+        further : drop o.length after ≡ drop o.length b₀
         further =
-            let e : end + (l - end) ≡ l = omega arith in
-            rw (← e) (sym (drop-drop (l - end) end after) ∙ ap (drop (l - end)) behind ∙ drop-drop (l - end) end b₀)
+            let e : end + (o.length - end) ≡ o.length = omega arith in
+            rw (← e) (sym (drop-drop (o.length - end) end after) ∙ ap (drop (o.length - end)) behind ∙ drop-drop (o.length - end) end b₀)

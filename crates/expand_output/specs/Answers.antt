@@ -1,9 +1,10 @@
 -- What the calls that expand a string promise.
 -- Assumes nothing.
-use Rattle.std.specs.Prelude.{◌≡◌, List, ℕ, ◌≤◌, ℤ, length, take}
+use Rattle.std.specs.Prelude.{◌≡◌, List, ℕ, ◌≤◌, ℤ, length, take, Result}
 use Rattle.base.specs.Overwrite.{put_at}
 use Rattle.base.specs.Answer.{Answer, map_answer}
-use Rattle.expansion.specs.declared.Expansion.{Expansion}
+use Rattle.expansion.specs.declared.Output.{Output}
+use Rattle.expansion.specs.declared.ExpansionRefusal.{ExpansionRefusal}
 use Rattle.expansion.specs.declared.Expanded.{Expanded}
 use Rattle.expansion.specs.Expanding.{Expanding, counted, says_expansion, lasting_after, output_after, Within}
 
@@ -20,7 +21,7 @@ pub record ExpandedAs (n room : ℕ) (a : Answer Expanding) (before : List ℤ) 
 -- output has at most room bytes, that comes to a, with variables v before and v' after, over a buffer with bytes b
 -- before and b' after, answers r; a refusal leaves both
 pub record LentAs (n room : ℕ) (a : Answer Expanding) (v v' : List ℤ) (b : List ℕ) (at : ℕ) (b' : List ℕ)
-    (r : Expansion) : Type 0 where
+    (r : Result Output ExpansionRefusal) : Type 0 where
   pub answer : says_expansion r ≡ map_answer counted a
   pub lasting : v' ≡ lasting_after v a
   pub output : b' ≡ output_after b at a

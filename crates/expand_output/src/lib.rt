@@ -2,10 +2,9 @@
 // `formed` and `ended` of expansion/specs say. Assumed: nothing.
 #![tactic(auto)]
 
-ghost use Rattle.std.specs.Prelude.{◌≡◌, ℕ, ◌≤◌, length, take};
+ghost use Rattle.std.specs.Prelude.{◌≡◌, ℕ, ◌≤◌, length, take, Ok};
 ghost use Rattle.base.specs.Overwrite.{put_at};
 ghost use Rattle.expansion.specs.Limits.{string_most};
-ghost use Rattle.expansion.specs.declared.Form.TheVariants.{Right};
 ghost use Rattle.expansion.specs.Form.{form_of};
 ghost use Rattle.expansion.specs.Machine.{run};
 ghost use Rattle.expansion.specs.Counting.{room_with};
@@ -14,31 +13,16 @@ ghost use Rattle.expansion.specs.Expanding.{ended, formed};
 ghost use Rattle.arguments.specs.Judged.{AllJudged, NoneLonger};
 ghost use Rattle.expand_output.specs.Answers.{LentAs, KeptAs};
 
-use expand_run::{Ran, run};
-use expansion::{Argument, Expansion, Form};
-
-// Copies the first n bytes.
-fn copy(from: &[u8], n: usize, out: &mut [u8])
-    requires { (n ≤ length from.now) × (n ≤ length out.old) }
-    ensures { out.new ≡ put_at out.old 0 (take n from.now) }
-{
-    let mut i: usize = 0;
-    while i < n {
-        out[i] = from[i];
-        i += 1;
-    }
-}
+use expand_run::run;
+use expansion::{Argument, ExpansionRefusal, Output};
 
 // Keeps a buffer's first bytes, as many as the short buffer holds, and says how many.
 fn keep(out: &[u8], short: &mut [u8]) -> usize
     ensures { KeptAs out.now short.old short.new result }
 {
-    if short.len() < out.len() {
-        copy(out, short.len(), short);
-        return short.len();
-    }
-    copy(out, out.len(), short);
-    out.len()
+    let end = out.len().min(short.len());
+    short[..end].copy_from_slice(&out[..end]);
+    end
 }
 
 // Expands a string whose form is right from the buffer's first byte on. A run prints into the buffer's first bytes, as
@@ -51,8 +35,8 @@ fn expand_right(
     lasting: &mut [i32; 26],
     short: &mut [u8],
     out: &mut [u8],
-) -> Expansion
-    requires { (length s.now ≤ string_most) × (form_of s.now ≡ Right) × AllJudged texts.now arguments }
+) -> Result<Output, ExpansionRefusal>
+    requires { (length s.now ≤ string_most) × (form_of s.now ≡ Ok tt) × AllJudged texts.now arguments }
     ensures { (most : ℕ) → NoneLonger most arguments
         → LentAs (length s.now) (room_with most s.now)
         (ended (run s.now (values_of texts.now arguments) lasting.old)
@@ -61,36 +45,25 @@ fn expand_right(
 {
     let mut end = keep(out, short);
     let saved = *lasting;
+    // at most two runs, the second for a length that the first tells: no range counts them
     loop {
-        match run(s, arguments, texts, lasting, &mut out[0..end]) {
-            Ran::Empty(i) => {
-                copy(short, end, out);
-                *lasting = saved;
-                return Expansion::Empty(i);
-            }
-            Ran::Full(i) => {
-                copy(short, end, out);
-                *lasting = saved;
-                return Expansion::Full(i);
-            }
-            Ran::Kind(i) => {
-                copy(short, end, out);
-                *lasting = saved;
-                return Expansion::Kind(i);
-            }
-            Ran::Done { length, steps } => {
-                if out.len() < length {
-                    copy(short, end, out);
-                    *lasting = saved;
-                    return Expansion::Room(length);
+        let refusal = match run(s, arguments, texts, lasting, &mut out[..end]) {
+            Err(refusal) => ExpansionRefusal::from(refusal),
+            Ok(output) => {
+                if output.length <= end {
+                    return Ok(output);
                 }
-                if length <= end {
-                    return Expansion::Done { length, steps };
+                if output.length <= out.len() {
+                    end = output.length;
+                    *lasting = saved; // what the first run stored is not read
+                    continue;
                 }
-                end = length;
-                *lasting = saved; // what the first run stored is not read
+                ExpansionRefusal::Room(output.length)
             }
-        }
+        };
+        out[..end].copy_from_slice(&short[..end]);
+        *lasting = saved; // as they came
+        return Err(refusal);
     }
 }
 
@@ -102,7 +75,7 @@ pub fn expand_into(
     lasting: &mut [i32; 26],
     short: &mut [u8],
     out: &mut [u8],
-) -> Expansion
+) -> Result<Output, ExpansionRefusal>
     requires { (length s.now ≤ string_most) × AllJudged texts.now arguments }
     ensures { (most : ℕ) → NoneLonger most arguments
         → LentAs (length s.now) (room_with most s.now) (formed (form_of s.now)
@@ -111,7 +84,7 @@ pub fn expand_into(
         out.new result }
 {
     match conditionals::form_of(s) {
-        Form::Right => expand_right(s, arguments, texts, lasting, short, out),
-        Form::Wrong(p) => Expansion::Malformed(p),
+        Ok(()) => expand_right(s, arguments, texts, lasting, short, out),
+        Err(p) => Err(ExpansionRefusal::Malformed(p)),
     }
 }

@@ -1,35 +1,32 @@
 -- Laws of a run by its steps: what an item comes to, over values.
 -- Assumes nothing.
 use mathlib.Core.Path.{◌≡◌, refl, sym, ap, ◌∙◌, subst}
-use mathlib.Core.Bool.{Bool, true, false, ◌||◌, not}
+use mathlib.Core.Bool.{Bool, true, false}
 use mathlib.Core.List.{List, [], ◌∷◌, ◌++◌, append-nil}
 use Prim.Native.Nat.{ℕ, zero, suc, ◌+◌, ◌-◌, ◌*◌, ◌^◌, ◌≤◌, ◌<◌}
-use native.Mathlib.Nat.{mul-le-mul_left}
 use native.Mathlib.Omega.{arith}
 use lib.IntN.{ℤ, pos}
 use lib.ListN.{length, get_or, set, take, replicate, length-append, length-set}
-use lib.Seq.{get_or-set_same}
 use mir.Syntax.{w32}
 use mir.Val.{to_z}
 use borrow.Author.Tests.{lt-ltb, le-ltb}
 use Rattle.base.proofs.IfLaws.{below_or}
-use Rattle.base.specs.If.{when◌then◌else◌}
 use Rattle.base.specs.Overwrite.{put_at}
 use Rattle.base.proofs.OverwriteLaws.{put_nil, put_put}
 use Rattle.expansion.specs.declared.Base.{Base}
 use Rattle.expansion.specs.declared.Item.{Item}
 use Rattle.expansion.specs.declared.Item.TheVariants as I
-use Rattle.expansion.specs.declared.Form.TheVariants.{Right}
+use Rattle.std.specs.Prelude.{Ok}
 use Rattle.expansion.specs.declared.Lexed.{Lexed}
 use Rattle.expansion.specs.Limits.{string_most, stack_most, text_most, room_for, expansion_most}
 use Rattle.expansion.specs.Items.{lexed, item_at}
 use Rattle.expansion.specs.Form.{form_of}
 use Rattle.expansion.specs.Print.{printed}
-use Rattle.expansion.specs.Values.{Value, number, text, no_value, is_text, number_in, text_in}
+use Rattle.expansion.specs.Values.{Value, number, text, no_value, is_text}
 use Rattle.expansion.specs.Machine.{Machine, Effect, prints, pushes, stores, increments, to_else, to_end, printed_by}
 use Rattle.expansion.specs.Machine.{Taken, goes_on, goes_to_else, goes_to_end, full, arity, pops_text, other_kind, effect, performed, incremented}
 use Rattle.expansion.specs.Machine.{Outcome, finished, failed, run}
-use Rattle.expansion.specs.Counting.{count_of, prints_text, room_with}
+use Rattle.expansion.specs.Counting.{prints_text, room_with}
 use Rattle.signed.specs.Signed.{is_zero}
 use Rattle.item_parts.specs.Right.{Simple}
 use Rattle.item_parts.proofs.Laws.{item_on, item_holds}
@@ -49,7 +46,7 @@ use Rattle.machine.specs.declared.Step.{Step}
 use Rattle.machine.specs.declared.Step.TheVariants.{Push, Go}
 use Rattle.machine.specs.Steps.{step_of, machine_after, SteppedAs}
 use Rattle.machine.proofs.Laws.{emitted_nothing}
-use Rattle.expand_run.proofs.StackLaws.{top_down, top_down_length, top_down_push, top_down_above, over, other, Popped, kind_none, kind_one, kind_two}
+use Rattle.expand_run.proofs.StackLaws.{top_down, top_down_length, top_down_push, over, other, Popped, kind_none, kind_one, kind_two}
 use Rattle.expand_run.proofs.StackLaws.{taking_none, taking_other, taking_popped, popped_none, popped_one}
 
 -- a number of the code is a value
@@ -228,7 +225,7 @@ pub record Going (M : ℕ → Type 0) (s : List ℕ) (y₀ : Outcome) (c₀ : Li
     pub output : length o ≤ length c₀ → c ≡ put_at c₀ 0 o
     pub runs : y₀ ≡ run_of_rest s (point_at i (over st d x y z) o n)
 
-pub going_start : {M : ℕ → Type 0} (s c : List ℕ) (x : List Value) (z : List ℤ) (st : List Value) → length st ≡ stack_most → length x ≡ 9 → form_of s ≡ Right
+pub going_start : {M : ℕ → Type 0} (s c : List ℕ) (x : List Value) (z : List ℤ) (st : List Value) → length st ≡ stack_most → length x ≡ 9 → form_of s ≡ Ok tt
     → Going M s (run s x z) c x (replicate 26 (pos 0)) z st 0 0 0 0 c []
 unfolding top_down
 going_start s c x z st l n r =

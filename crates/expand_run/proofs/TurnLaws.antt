@@ -1,7 +1,7 @@
 -- Laws of a run's turns: what its arrays hold, the arguments and the stack, and what each arm of its loop does.
 -- Assumes nothing.
 use mathlib.Core.Path.{◌≡◌, refl, sym, ap, ap₂, ◌∙◌}
-use mathlib.Core.Bool.{Bool, true, false}
+use mathlib.Core.Bool.{true, false}
 use mathlib.Core.List.{List, [], ◌∷◌, ◌++◌, map}
 use Prim.Native.Nat.{ℕ, zero, suc, ◌+◌, ◌-◌, ◌≤◌, ◌<◌}
 use native.Mathlib.Omega.{arith}
@@ -14,11 +14,11 @@ use Rattle.expansion.specs.declared.Argument.{Argument}
 use Rattle.expansion.specs.declared.Operand.{Operand}
 use Rattle.expansion.specs.declared.Operand.TheVariants as O
 use Rattle.expansion.specs.declared.Item.TheVariants as I
-use Rattle.expansion.specs.declared.Form.TheVariants.{Right}
+use Rattle.std.specs.Prelude.{Ok}
 use Rattle.expansion.specs.Limits.{string_most, stack_most, text_most, expansion_most}
 use Rattle.expansion.specs.Items.{lexed, item_at}
 use Rattle.expansion.specs.Form.{form_of}
-use Rattle.expansion.specs.Values.{Value, number, text, no_value, is_text}
+use Rattle.expansion.specs.Values.{Value, number, no_value, is_text}
 use Rattle.expansion.specs.Machine.{raised, incremented, Outcome, failed, run}
 use Rattle.expansion.specs.Arguments.{meant, values_of}
 use Rattle.signed.specs.Signed.{is_zero}
@@ -28,8 +28,7 @@ use Rattle.level_laws.specs.Levels.{PastLevel, OpenAt}
 use Rattle.arguments.specs.Raised.{raised_of}
 use Rattle.arguments.specs.Judged.{Judged, AllJudged, NoLonger, NoneLonger}
 use Rattle.arguments.proofs.Laws.{raised_meant, raised_judged, raised_longer, meant_length}
-use Rattle.expand_run.specs.declared.Element.{Element}
-use Rattle.expand_run.proofs.StackLaws.{top_down, top_down_above}
+use Rattle.expand_run.proofs.StackLaws.{top_down_above}
 use Rattle.expand_run.proofs.Laws as G
 use Rattle.expand_run.proofs.Laws.{Going}
 
@@ -38,15 +37,12 @@ use Rattle.expand_run.proofs.Laws.{Going}
 abbrev pub no_argument : Argument
 no_argument = record { operand = O.Number (pos 0) }
 
-abbrev pub no_element : Element
-no_element = record { operand = O.Number (pos 0) }
-
-abbrev pub element : Operand → Element
-element o = record { operand = o }
+abbrev pub no_operand : Operand
+no_operand = O.Number (pos 0)
 
 -- the values of the stack's array
-abbrev pub stack_of : List ℕ → List Element → List Value
-stack_of t es = map (λ (e : Element). meant t e.operand) es
+abbrev pub stack_of : List ℕ → List Operand → List Value
+stack_of t es = map (meant t) es
 
 map_set : {A B : Type 0} (f : A → B) (xs : List A) (i : ℕ) (v : A) → map f (set xs i v) ≡ set (map f xs) i (f v)
 map_set f [] i v = refl
@@ -86,11 +82,11 @@ raised_values t xs =
 
 -- ---- what holds at the loop's head
 
-pub record Running (t s : List ℕ) (y₀ : Outcome) (c₀ : List ℕ) (xs₀ xs : List Argument) (y z : List ℤ) (es : List Element)
+pub record Running (t s : List ℕ) (y₀ : Outcome) (c₀ : List ℕ) (xs₀ xs : List Argument) (y z : List ℤ) (es : List Operand)
     (d i n w : ℕ) (c o : List ℕ) : Type 0 where
   pub going : Going (λ most. NoneLonger most xs₀) s y₀ c₀ (values_of t xs) y z (stack_of t es) d i n w c o
   pub given : Each (λ (a : Argument). Fit t xs₀ a.operand) xs
-  pub held : Each (λ (e : Element). Fit t xs₀ e.operand) es
+  pub held : Each (Fit t xs₀) es
   pub nine : length xs ≡ 9
   pub places : length es ≡ stack_most
   pub shorter : NoneLonger text_most xs₀
@@ -103,19 +99,19 @@ judged_shorter t (a ∷ xs) h = (by_operand a.operand h.0, judged_shorter t xs h
     by_operand (O.Number v) k = tt
     by_operand (O.Text start n) k = k.1
 
-pub running_start : (t s c : List ℕ) (xs : List Argument) (z : List ℤ) → length xs ≡ 9 → form_of s ≡ Right → AllJudged t xs
-    → Running t s (run s (values_of t xs) z) c xs xs (replicate 26 (pos 0)) z (replicate 20 no_element) 0 0 0 0 c []
+pub running_start : (t s c : List ℕ) (xs : List Argument) (z : List ℤ) → length xs ≡ 9 → form_of s ≡ Ok tt → AllJudged t xs
+    → Running t s (run s (values_of t xs) z) c xs xs (replicate 26 (pos 0)) z (replicate 20 no_operand) 0 0 0 0 c []
 running_start t s c xs z l r j =
     record {
-      going = G.going_start s c (values_of t xs) z (stack_of t (replicate 20 no_element)) refl (length-map xs _ ∙ l) r;
+      going = G.going_start s c (values_of t xs) z (stack_of t (replicate 20 no_operand)) refl (length-map xs _ ∙ l) r;
       given = each_fit t xs xs (λ _ m. m) j;
-      held = each_replicate (λ (e : Element). Fit t xs e.operand) 20 no_element number_fit;
+      held = each_replicate (Fit t xs) 20 no_operand number_fit;
       nine = l;
       places = refl;
       shorter = judged_shorter t xs j;
     }
 
-module _ {t s : List ℕ} {y₀ : Outcome} {c₀ : List ℕ} {xs₀ xs : List Argument} {y z : List ℤ} {es : List Element} {d i n w : ℕ} {c o : List ℕ}
+module _ {t s : List ℕ} {y₀ : Outcome} {c₀ : List ℕ} {xs₀ xs : List Argument} {y z : List ℤ} {es : List Operand} {d i n w : ℕ} {c o : List ℕ}
     (R : Running t s y₀ c₀ xs₀ xs y z es d i n w c o) where
   pub running_room : length s ≤ string_most → w ≤ expansion_most
   running_room l = G.going_room R.going R.shorter l
@@ -128,17 +124,17 @@ module _ {t s : List ℕ} {y₀ : Outcome} {c₀ : List ℕ} {xs₀ xs : List Ar
   argument_is : (j : ℕ) → get_or (values_of t xs) j no_value ≡ meant t (get_or xs j no_argument).operand
   argument_is j = get_or-map (λ (a : Argument). meant t a.operand) xs j no_argument
 
-  pub element_fit : (j : ℕ) → Fit t xs₀ (get_or es j no_element).operand
-  element_fit j = each_get_d (λ (e : Element). Fit t xs₀ e.operand) es j no_element R.held number_fit
+  pub element_fit : (j : ℕ) → Fit t xs₀ (get_or es j no_operand)
+  element_fit j = each_get_d (Fit t xs₀) es j no_operand R.held number_fit
 
-  pub element_is : (j : ℕ) {p : Operand} → (get_or es j no_element).operand ≡ p → get_or (stack_of t es) j no_value ≡ meant t p
-  element_is j e = get_or-map (λ (e : Element). meant t e.operand) es j no_element ∙ ap (meant t) e
+  pub element_is : (j : ℕ) {p : Operand} → get_or es j no_operand ≡ p → get_or (stack_of t es) j no_value ≡ meant t p
+  element_is j e = get_or-map (meant t) es j no_operand ∙ ap (meant t) e
 
   -- a text on the stack: it lies in the block, and has so many bytes
-  pub text_judged : (j : ℕ) {start k : ℕ} → (get_or es j no_element).operand ≡ O.Text start k → (start + k ≤ length t) × (k ≤ text_most)
+  pub text_judged : (j : ℕ) {start k : ℕ} → get_or es j no_operand ≡ O.Text start k → (start + k ≤ length t) × (k ≤ text_most)
   text_judged j e = rw e at (element_fit j).judged
 
-  pub text_counts : (j : ℕ) {start k : ℕ} → (get_or es j no_element).operand ≡ O.Text start k → length (take k (drop start t)) ≡ k
+  pub text_counts : (j : ℕ) {start k : ℕ} → get_or es j no_operand ≡ O.Text start k → length (take k (drop start t)) ≡ k
   text_counts j {start} {k} e = meant_length t start k (text_judged j e).0
 
   -- ---- the same arrays, at another point
@@ -151,15 +147,15 @@ module _ {t s : List ℕ} {y₀ : Outcome} {c₀ : List ℕ} {xs₀ xs : List Ar
   -- an element more on the stack
   pub pushed : (p : Operand) (k : ℕ) {v : Value} {y' z' : List ℤ} {d' i' n' w' : ℕ} {c' o' : List ℕ} → Fit t xs₀ p → v ≡ meant t p
       → Going (λ most. NoneLonger most xs₀) s y₀ c₀ (values_of t xs) y' z' (set (stack_of t es) k v) d' i' n' w' c' o'
-      → Running t s y₀ c₀ xs₀ xs y' z' (set es k (element p)) d' i' n' w' c' o'
+      → Running t s y₀ c₀ xs₀ xs y' z' (set es k p) d' i' n' w' c' o'
   pushed p k {v} f e g =
-      let m : stack_of t (set es k (element p)) ≡ set (stack_of t es) k v = map_set (λ (e : Element). meant t e.operand) es k (element p) ∙ rw e in
+      let m : stack_of t (set es k p) ≡ set (stack_of t es) k v = map_set (meant t) es k p ∙ rw e in
       record {
         going = rw m g;
         given = R.given;
-        held = each_set (λ (e : Element). Fit t xs₀ e.operand) es k (element p) R.held f;
+        held = each_set (Fit t xs₀) es k p R.held f;
         nine = R.nine;
-        places = length-set es k (element p) ∙ R.places;
+        places = length-set es k p ∙ R.places;
         shorter = R.shorter;
       }
 
@@ -167,21 +163,21 @@ module _ {t s : List ℕ} {y₀ : Outcome} {c₀ : List ℕ} {xs₀ xs : List Ar
 
   module _ (h : i < length s) {next : ℕ} where
     pub argument_pushed : {j : ℕ} → lexed (I.Argument j) next ≡ item_at s i → d < stack_most
-        → Running t s y₀ c₀ xs₀ xs y z (set es d (element (get_or xs j no_argument).operand)) (d + 1) next (n + 1) w c o
+        → Running t s y₀ c₀ xs₀ xs y z (set es d (get_or xs j no_argument).operand) (d + 1) next (n + 1) w c o
     argument_pushed {j} q l =
         pushed (get_or xs j no_argument).operand d (argument_fit j) (argument_is j) (G.argument_pushed R.going h q l)
 
     pub constant_pushed : {v : ℤ} → lexed (I.Constant v) next ≡ item_at s i → d < stack_most
-        → Running t s y₀ c₀ xs₀ xs y z (set es d (element (O.Number v))) (d + 1) next (n + 1) w c o
+        → Running t s y₀ c₀ xs₀ xs y z (set es d (O.Number v)) (d + 1) next (n + 1) w c o
     constant_pushed {v} q l = pushed (O.Number v) d number_fit refl (G.constant_pushed R.going h q l)
 
-    pub length_gone : {start k : ℕ} → lexed I.Length next ≡ item_at s i → 0 < d → (get_or es (d - 1) no_element).operand ≡ O.Text start k
-        → Running t s y₀ c₀ xs₀ xs y z (set es (d - 1) (element (O.Number (pos k)))) d next (n + 1) w c o
+    pub length_gone : {start k : ℕ} → lexed I.Length next ≡ item_at s i → 0 < d → get_or es (d - 1) no_operand ≡ O.Text start k
+        → Running t s y₀ c₀ xs₀ xs y z (set es (d - 1) (O.Number (pos k))) d next (n + 1) w c o
     length_gone {start} {k} q u e =
         pushed (O.Number (pos k)) (d - 1) number_fit (ap (λ (m : ℕ). number (pos m)) (text_counts (d - 1) e))
         (G.length_gone R.going h q u (element_is (d - 1) e))
 
-    pub text_gone : {start k : ℕ} {c' : List ℕ} → lexed I.Text next ≡ item_at s i → 0 < d → (get_or es (d - 1) no_element).operand ≡ O.Text start k
+    pub text_gone : {start k : ℕ} {c' : List ℕ} → lexed I.Text next ≡ item_at s i → 0 < d → get_or es (d - 1) no_operand ≡ O.Text start k
         → c' ≡ emitted c w (take k (drop start t))
         → Running t s y₀ c₀ xs₀ xs y z es (d - 1) next (n + 1) (w + k) c' (o ++ take k (drop start t))
     text_gone {start} {k} q u e f =
@@ -222,7 +218,7 @@ module _ {t s : List ℕ} {y₀ : Outcome} {c₀ : List ℕ} {xs₀ xs : List Ar
       top : {p : Operand} → (get_or xs j no_argument).operand ≡ p → get_or (set (stack_of t es) d (get_or (values_of t xs) j no_value)) (d + 1 - 1) no_value ≡ meant t p
       top {p} e =
           let k : d + 1 - 1 ≡ d = omega arith in
-          rw k (get_or-set_same (stack_of t es) d (get_or (values_of t xs) j no_value) no_value (omega (arith, length-map es (λ (e : Element). meant t e.operand), R.places)) ∙ argument_is j ∙ ap (meant t) e)
+          rw k (get_or-set_same (stack_of t es) d (get_or (values_of t xs) j no_value) no_value (omega (arith, length-map es (meant t), R.places)) ∙ argument_is j ∙ ap (meant t) e)
 
       pub test_other : {start k : ℕ} → (get_or xs j no_argument).operand ≡ O.Text start k → y₀ ≡ failed 21 (i + 5)
       test_other e = G.then_other second (omega (arith, T.inside)) (sym T.test) (omega arith) (ap is_text (top e))

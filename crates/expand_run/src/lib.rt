@@ -4,36 +4,39 @@
 // what touches either is a step of the run itself, and an item's own function sees numbers only.
 #![tactic(auto)]
 
-ghost use Rattle.std.specs.Prelude.{◌≡◌, ◌≤◌, length};
+ghost use Rattle.std.specs.Prelude.{◌≡◌, ◌≤◌, length, Ok};
 ghost use Rattle.expansion.specs.Limits.{string_most};
-ghost use Rattle.expansion.specs.declared.Form.TheVariants.{Right};
 ghost use Rattle.expansion.specs.Form.{form_of};
 ghost use Rattle.expansion.specs.Machine.{run};
 ghost use Rattle.expansion.specs.Arguments.{values_of};
 ghost use Rattle.arguments.specs.Judged.{AllJudged};
-ghost use Rattle.expand_run.specs.Runs.{RunAs};
+ghost use Rattle.expand_run.specs.Runs.{RunAs, refusal_of};
 
-use expansion::{Argument, Operand};
+use expansion::{Argument, ExpansionRefusal, Operand, Output};
 use items::RunItem;
 use machine::Step;
 
 // The stack's places.
 const STACK_MOST: usize = 20;
 
-// What a place of the stack holds.
+// Why a run stops: at an item's place with the stack empty or full, or with a value of the other kind on it.
 #[derive(Clone, Copy)]
-struct Element {
-    operand: Operand,
-}
-
-// How a run ended: with the output's length and the steps, or at an item's place with the stack empty or full, or
-// with a value of the other kind on it.
-#[derive(Clone, Copy)]
-pub enum Ran {
-    Done { length: usize, steps: usize },
+pub enum RunRefusal {
     Empty(usize),
     Full(usize),
     Kind(usize),
+}
+
+impl From<RunRefusal> for ExpansionRefusal {
+    ghost from_gives = { λ refusal result. result ≡ refusal_of refusal };
+
+    fn from(refusal: RunRefusal) -> ExpansionRefusal {
+        match refusal {
+            RunRefusal::Empty(i) => ExpansionRefusal::Empty(i),
+            RunRefusal::Full(i) => ExpansionRefusal::Full(i),
+            RunRefusal::Kind(i) => ExpansionRefusal::Kind(i),
+        }
+    }
 }
 
 // Runs a string from its start, and prints from the buffer's first byte on what fits; the length counts in any case.
@@ -43,23 +46,20 @@ pub fn run(
     texts: &[u8],
     lasting: &mut [i32; 26],
     out: &mut [u8],
-) -> Ran
-    requires { (length s.now ≤ string_most) × (form_of s.now ≡ Right) × AllJudged texts.now arguments }
+) -> Result<Output, RunRefusal>
+    requires { (length s.now ≤ string_most) × (form_of s.now ≡ Ok tt) × AllJudged texts.now arguments }
     ensures { RunAs s.now arguments
         (run s.now (values_of texts.now arguments) lasting.old) out.old result
         lasting.new out.new }
 {
     let mut given = arguments;
-    let none = Element {
-        operand: Operand::Number(0),
-    };
-    let mut stack = [none; STACK_MOST];
+    let mut stack = [Operand::Number(0); STACK_MOST];
     let mut locals = [0i32; 26];
     let mut depth: usize = 0;
     let mut i: usize = 0;
     let mut steps: usize = 0;
     let mut length: usize = 0;
-    while i < s.len() {
+    while i < s.len() { // an item has no fixed size, and a condition goes past many: no range counts i
         steps += 1;
         match items::item_at(s, i) {
             RunItem::Byte(c) => {
@@ -69,33 +69,24 @@ pub fn run(
             }
             RunItem::Argument(n) => {
                 if STACK_MOST <= depth {
-                    return Ran::Full(i);
+                    return Err(RunRefusal::Full(i));
                 }
-                let a = given[n];
-                let operand = a.operand;
-                stack[depth] = Element { operand: operand };
+                stack[depth] = given[n].operand;
                 depth += 1;
                 i += 3;
             }
             RunItem::Test(n) => {
                 if STACK_MOST <= depth {
-                    return Ran::Full(i + 2);
+                    return Err(RunRefusal::Full(i + 2));
                 }
-                let a = given[n];
-                let operand = a.operand;
-                match operand {
-                    Operand::Number(v) => {
-                        steps += 2;
-                        if v == 0 {
-                            i = level_end::pass(s, i + 7, true);
-                        } else {
-                            i += 7;
-                        }
-                    }
-                    Operand::Text {
-                        start: _,
-                        length: _,
-                    } => return Ran::Kind(i + 5),
+                let Operand::Number(v) = given[n].operand else {
+                    return Err(RunRefusal::Kind(i + 5));
+                };
+                steps += 2;
+                if v == 0 {
+                    i = level_end::pass(s, i + 7, true);
+                } else {
+                    i += 7;
                 }
             }
             RunItem::Number {
@@ -105,97 +96,65 @@ pub fn run(
                 next,
             } => {
                 if depth < 1 {
-                    return Ran::Empty(i);
+                    return Err(RunRefusal::Empty(i));
                 }
                 depth -= 1;
-                let e = stack[depth];
-                let operand = e.operand;
-                match operand {
-                    Operand::Number(v) => {
-                        let count = print::put_number(out, length, base, zero, width, v);
-                        length += count;
-                        i = next;
-                    }
-                    Operand::Text {
-                        start: _,
-                        length: _,
-                    } => return Ran::Kind(i), // a text is no number
-                }
+                let Operand::Number(v) = stack[depth] else {
+                    return Err(RunRefusal::Kind(i)); // a text is no number
+                };
+                length += print::put_number(out, length, base, zero, width, v);
+                i = next;
             }
             RunItem::Constant { value, next } => {
                 if STACK_MOST <= depth {
-                    return Ran::Full(i);
+                    return Err(RunRefusal::Full(i));
                 }
-                stack[depth] = Element {
-                    operand: Operand::Number(value),
-                };
+                stack[depth] = Operand::Number(value);
                 depth += 1;
                 i = next;
             }
             RunItem::Increment => {
-                let first = given[0];
-                let second = given[1];
-                given[0] = arguments::raised(first);
-                given[1] = arguments::raised(second);
+                given[0] = arguments::raised(given[0]);
+                given[1] = arguments::raised(given[1]);
                 i += 2;
             }
             RunItem::Text => {
                 if depth < 1 {
-                    return Ran::Empty(i);
+                    return Err(RunRefusal::Empty(i)); // 15 comes before 21
                 }
                 depth -= 1;
-                let e = stack[depth];
-                let operand = e.operand;
-                match operand {
-                    Operand::Number(_) => return Ran::Kind(i),
-                    Operand::Text { start, length: n } => {
-                        print_text::put_text(out, length, texts, start, n);
-                        length += n;
-                        i += 2;
-                    }
-                }
+                let Operand::Text { start, length: n } = stack[depth] else {
+                    return Err(RunRefusal::Kind(i));
+                };
+                print_text::put_text(out, length, texts, start, n);
+                length += n;
+                i += 2;
             }
             RunItem::Length => {
                 if depth < 1 {
-                    return Ran::Empty(i);
+                    return Err(RunRefusal::Empty(i));
                 }
-                let e = stack[depth - 1];
-                let operand = e.operand;
-                match operand {
-                    Operand::Number(_) => return Ran::Kind(i),
-                    Operand::Text {
-                        start: _, // only the length counts
-                        length: n,
-                    } => {
-                        stack[depth - 1] = Element {
-                            operand: Operand::Number(n as i32),
-                        };
-                        i += 2;
-                    }
-                }
+                let Operand::Text { length: n, .. } = stack[depth - 1] else {
+                    return Err(RunRefusal::Kind(i));
+                };
+                stack[depth - 1] = Operand::Number(n as i32);
+                i += 2;
             }
             RunItem::If => i += 2,
             RunItem::End => i += 2,
             RunItem::Else => i = level_end::pass(s, i + 2, false),
             RunItem::Then => {
                 if depth < 1 {
-                    return Ran::Empty(i);
+                    return Err(RunRefusal::Empty(i));
                 }
                 depth -= 1;
-                let e = stack[depth];
-                let operand = e.operand;
-                match operand {
-                    Operand::Number(v) => {
-                        if v == 0 {
-                            i = level_end::pass(s, i + 2, true);
-                        } else {
-                            i += 2;
-                        }
-                    }
-                    Operand::Text {
-                        start: _,
-                        length: _,
-                    } => return Ran::Kind(i),
+                let Operand::Number(v) = stack[depth] else {
+                    return Err(RunRefusal::Kind(i));
+                };
+                if v == 0 {
+                    i = level_end::pass(s, i + 2, true);
+                } else {
+                    i += 2;
                 }
             }
             RunItem::Other { item, next } => {
@@ -204,27 +163,17 @@ pub fn run(
                 let mut b: i32 = 0;
                 if 0 < pops {
                     if depth < pops {
-                        return Ran::Empty(i); // 15 comes before 21
+                        return Err(RunRefusal::Empty(i));
                     }
-                    let e = stack[depth - 1];
-                    let operand = e.operand;
-                    match operand {
-                        Operand::Number(v) => b = v,
-                        Operand::Text {
-                            start: _,
-                            length: _,
-                        } => return Ran::Kind(i),
-                    }
+                    let Operand::Number(top) = stack[depth - 1] else {
+                        return Err(RunRefusal::Kind(i));
+                    };
+                    b = top;
                     if 1 < pops {
-                        let f = stack[depth - 2];
-                        let left = f.operand;
-                        match left {
-                            Operand::Number(v) => a = v,
-                            Operand::Text {
-                                start: _,
-                                length: _,
-                            } => return Ran::Kind(i),
-                        }
+                        let Operand::Number(below) = stack[depth - 2] else {
+                            return Err(RunRefusal::Kind(i));
+                        };
+                        a = below;
                     }
                     depth -= pops;
                 }
@@ -235,11 +184,9 @@ pub fn run(
                     }
                     Step::Push(v) => {
                         if STACK_MOST <= depth {
-                            return Ran::Full(i);
+                            return Err(RunRefusal::Full(i));
                         }
-                        stack[depth] = Element {
-                            operand: Operand::Number(v),
-                        };
+                        stack[depth] = Operand::Number(v);
                         depth += 1;
                         i = next;
                     }
@@ -247,5 +194,5 @@ pub fn run(
             }
         }
     }
-    Ran::Done { length, steps }
+    Ok(Output { length, steps })
 }

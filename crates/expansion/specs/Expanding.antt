@@ -1,17 +1,16 @@
 -- What expanding gives (document 01: Expansion; Numbers of refusal, order of expansion), and what the code's answer
 -- says.
 -- Assumes nothing.
-use Rattle.std.specs.Prelude.{not, List, [], ◌∷◌, ℕ, ◌-◌, ◌≤◌, ◌<◌, leb, ℤ, length}
+use Rattle.std.specs.Prelude.{not, List, [], ◌∷◌, ℕ, ◌-◌, ◌≤◌, ◌<◌, leb, ℤ, length, Result, Ok, Err}
 use Rattle.base.specs.If.{when◌then◌else◌}
 use Rattle.base.specs.Overwrite.{put_at}
 use Rattle.base.specs.Answer.{Answer, refused, gives}
 use Rattle.expansion.specs.Limits.{string_most}
 use Rattle.expansion.specs.declared.Argument.{Argument}
-use Rattle.expansion.specs.declared.Form.{Form}
-use Rattle.expansion.specs.declared.Form.TheVariants as F
-use Rattle.expansion.specs.declared.Expansion.{Expansion}
-use Rattle.expansion.specs.declared.Expansion.TheVariants as E
-use Rattle.expansion.specs.Form.{form_of}
+use Rattle.expansion.specs.declared.Output.{Output}
+use Rattle.expansion.specs.declared.ExpansionRefusal.{ExpansionRefusal}
+use Rattle.expansion.specs.declared.ExpansionRefusal.TheVariants as E
+use Rattle.expansion.specs.Form.{Form, form_of}
 use Rattle.expansion.specs.Machine.{Outcome, finished, failed, run}
 use Rattle.expansion.specs.Arguments.{lies_in, is_short, each_passes, values_of}
 
@@ -32,8 +31,8 @@ ended (finished m out n) room =
 
 -- "14 over the whole string with the place of the first wrong item"
 unfoldable pub formed : Form → Answer Expanding → Answer Expanding
-formed (F.Wrong i) a = refused 14 (i ∷ [])
-formed F.Right a = a
+formed (Err i) a = refused 14 (i ∷ [])
+formed (Ok done) a = a
 
 -- "Expansion: 17, 1, 14 .., then the first failing step, then 8"; document 02, 2026-07: "A text that doesn't lie in
 -- what was lent is 17, judged after the output place"; "at most 1,000 each, else 1, judged after the string's own
@@ -65,25 +64,31 @@ pub record Counts : Type 0 where
 abbrev pub counted : Expanding → Counts
 counted x = record { length = length x.output; steps = x.steps }
 
-abbrev pub says_expansion : Expansion → Answer Counts
-says_expansion (E.Done n k) = gives (record { length = n; steps = k })
-says_expansion E.Place = refused 17 []
-says_expansion E.Length = refused 1 []
-says_expansion (E.Malformed i) = refused 14 (i ∷ [])
-says_expansion (E.Empty i) = refused 15 (i ∷ [])
-says_expansion (E.Full i) = refused 16 (i ∷ [])
-says_expansion (E.Kind i) = refused 21 (i ∷ [])
-says_expansion (E.Room n) = refused 8 (n ∷ [])
+abbrev pub refused_expansion : ExpansionRefusal → Answer Counts
+refused_expansion E.Place = refused 17 []
+refused_expansion E.Length = refused 1 []
+refused_expansion (E.Malformed i) = refused 14 (i ∷ [])
+refused_expansion (E.Empty i) = refused 15 (i ∷ [])
+refused_expansion (E.Full i) = refused 16 (i ∷ [])
+refused_expansion (E.Kind i) = refused 21 (i ∷ [])
+refused_expansion (E.Room n) = refused 8 (n ∷ [])
+
+abbrev pub says_expansion : Result Output ExpansionRefusal → Answer Counts
+says_expansion (Ok o) = gives (record { length = o.length; steps = o.steps })
+says_expansion (Err r) = refused_expansion r
 
 -- document 02, 2026-06: what the answer for a string of n bytes, whose output has room enough in so many bytes, is
 -- within: "never takes more than n steps". A wrong item stands in the string, an open conditional at its length; an
 -- item at which a step fails stands in the string
-abbrev pub Within : ℕ → ℕ → Expansion → Type 0
-Within n room (E.Done l k) = (l ≤ room) × (k ≤ n)
-Within n room E.Place = Unit {0}
-Within n room E.Length = Unit {0}
-Within n room (E.Malformed i) = i ≤ n
-Within n room (E.Empty i) = i < n
-Within n room (E.Full i) = i < n
-Within n room (E.Kind i) = i < n
-Within n room (E.Room l) = l ≤ room
+abbrev pub RefusedWithin : ℕ → ℕ → ExpansionRefusal → Type 0
+RefusedWithin n room E.Place = Unit {0}
+RefusedWithin n room E.Length = Unit {0}
+RefusedWithin n room (E.Malformed i) = i ≤ n
+RefusedWithin n room (E.Empty i) = i < n
+RefusedWithin n room (E.Full i) = i < n
+RefusedWithin n room (E.Kind i) = i < n
+RefusedWithin n room (E.Room l) = l ≤ room
+
+abbrev pub Within : ℕ → ℕ → Result Output ExpansionRefusal → Type 0
+Within n room (Ok o) = (o.length ≤ room) × (o.steps ≤ n)
+Within n room (Err r) = RefusedWithin n room r

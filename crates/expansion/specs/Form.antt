@@ -1,7 +1,7 @@
 -- Which strings are well formed, and the place of the first wrong item (document 01: Expansion; Numbers of refusal,
 -- 14).
 -- Assumes nothing.
-use Rattle.std.specs.Prelude.{true, false, List, [], ◌∷◌, ℕ, zero, suc, ltb, length}
+use Rattle.std.specs.Prelude.{true, false, List, [], ◌∷◌, ℕ, zero, suc, ltb, length, Result, Ok, Err}
 use Rattle.base.specs.If.{when◌then◌else◌}
 use Rattle.expansion.specs.Limits.{nest_most}
 use Rattle.expansion.specs.declared.Item.{Item}
@@ -9,8 +9,6 @@ use Rattle.expansion.specs.declared.Item.TheVariants as I
 use Rattle.expansion.specs.declared.Class.{Class}
 use Rattle.expansion.specs.declared.Class.TheVariants.{Plain, If, Then, Else, End, Wrong}
 use Rattle.expansion.specs.declared.Classed.{Classed}
-use Rattle.expansion.specs.declared.Form.{Form}
-use Rattle.expansion.specs.declared.Form.TheVariants as F
 use Rattle.expansion.specs.Items.{item_at}
 
 -- what an item is to the conditionals around it
@@ -81,17 +79,21 @@ nesting Else ls = after_else ls
 nesting End ls = after_end ls
 nesting Wrong ls = misplaced
 
+-- whether a string is well formed; if not, the place of its first wrong item
+abbrev pub Form : Type 0
+Form = Result (Unit {0}) ℕ
+
 -- the string from place i on, with these conditionals open: "the place of the first wrong item (the length for an open
 -- conditional)". The count falls with each item; the string's length and one is enough (form_of_lem of expansion_laws).
 unfoldable pub form_from : ℕ → List ℕ → ℕ → List Level → Form
-form_from zero s i ls = F.Wrong i
+form_from zero s i ls = Err i
 form_from (suc k) s i ls =
     elim (ltb i (length s)) [
       | true ↦ elim (nesting (class_at s i).class ls) [
         | levels ls' ↦ form_from k s (class_at s i).next ls'
-        | misplaced ↦ F.Wrong i
+        | misplaced ↦ Err i
       ]
-      | false ↦ elim ls [ [] ↦ F.Right | l ∷ ls' ↦ F.Wrong (length s) ]
+      | false ↦ elim ls [ [] ↦ Ok tt | l ∷ ls' ↦ Err (length s) ]
     ]
 
 unfoldable pub form_of : List ℕ → Form

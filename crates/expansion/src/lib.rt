@@ -60,7 +60,7 @@ pub enum Item {
     Then,
     Else,
     End,
-    // no item
+    // no item; no `None`, since every walk goes on from the place behind it
     Wrong,
 }
 
@@ -89,13 +89,6 @@ pub struct Classed {
     pub next: usize,
 }
 
-// Whether a string is well formed; if not, the place of its first wrong item.
-#[derive(Clone, Copy)]
-pub enum Form {
-    Right,
-    Wrong(usize),
-}
-
 // A number, or a text: where it starts in what was lent, and its length (document 02, 2026-07).
 #[derive(Clone, Copy)]
 pub enum Operand {
@@ -115,11 +108,16 @@ pub struct Lasting {
     pub values: [i32; 26],
 }
 
-// What expanding answers.
+// The length of an expansion's output, and its steps.
 #[derive(Clone, Copy)]
-pub enum Expansion {
-    // the output's length, and the steps
-    Done { length: usize, steps: usize },
+pub struct Output {
+    pub length: usize,
+    pub steps: usize,
+}
+
+// Why nothing is expanded.
+#[derive(Clone, Copy)]
+pub enum ExpansionRefusal {
     // 17: the output place is above the buffer's length, or a text doesn't lie in what was lent
     Place,
     // 1: the string, or a text, is longer than 1,000 bytes
@@ -136,9 +134,9 @@ pub enum Expansion {
     Room(usize),
 }
 
-// The answer, and the lasting variables as they are afterwards.
+// What expanding answers, and the lasting variables as they are afterwards.
 #[derive(Clone, Copy)]
 pub struct Expanded {
-    pub answer: Expansion,
+    pub answer: Result<Output, ExpansionRefusal>,
     pub lasting: Lasting,
 }

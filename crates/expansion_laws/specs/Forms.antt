@@ -1,6 +1,6 @@
 -- The form of a string: any count above what is left of it gives the same, and the equations, which show no count.
 -- Assumes nothing.
-use Rattle.std.specs.Prelude.{◌≡◌}
+use Rattle.std.specs.Prelude.{◌≡◌, Ok, Err}
 use Rattle.std.proofs.Math.Path.{refl}
 use Rattle.std.proofs.Common.{sym, ◌∙◌, not-suc-le-zero, arith}
 use mathlib.Core.List.{List, [], ◌∷◌}
@@ -8,9 +8,7 @@ use Prim.Native.Nat.{ℕ, zero, suc, ◌-◌, ◌≤◌, ◌<◌}
 use Rattle.std.proofs.Math.ListN.{length}
 use borrow.Author.Tests.{lt-ltb, le-ltb}
 use Rattle.base.proofs.IfLaws.{below_or}
-use Rattle.expansion.specs.declared.Form.{Form}
-use Rattle.expansion.specs.declared.Form.TheVariants.{Right, Wrong}
-use Rattle.expansion.specs.Form.{class_at, Level, Nesting, levels, misplaced, nesting, form_from, form_of}
+use Rattle.expansion.specs.Form.{Form, class_at, Level, Nesting, levels, misplaced, nesting, form_from, form_of}
 use Rattle.item_parts.proofs.Laws.{item_on}
 
 -- the form of what is left of a string from place i on, with these conditionals open
@@ -20,12 +18,12 @@ form_of_rest s i ls = form_from (suc (length s - i)) s i ls
 -- the form behind the item at i, by what it does to the open conditionals
 abbrev pub form_behind : List ℕ → ℕ → Nesting → Form
 form_behind s i (levels ls) = form_of_rest s (class_at s i).next ls
-form_behind s i misplaced = Wrong i
+form_behind s i misplaced = Err i
 
 -- the form at the string's end, where no conditional may be open
 abbrev pub form_at_end : List ℕ → List Level → Form
-form_at_end s [] = Right
-form_at_end s (l ∷ ls) = Wrong (length s)
+form_at_end s [] = Ok tt
+form_at_end s (l ∷ ls) = Err (length s)
 
 -- an item leads on
 pub class_on : (s : List ℕ) (i : ℕ) → i < length s → i < (class_at s i).next
@@ -40,7 +38,7 @@ module _ (k : ℕ) (s : List ℕ) (i : ℕ) (ls : List Level) (h : i < length s)
   unfolding form_from
   form_levels ls' q = rw (form_from, lt-ltb i (length s) h, q)
 
-  form_misplaced : nesting (class_at s i).class ls ≡ misplaced → form_from (suc k) s i ls ≡ Wrong i
+  form_misplaced : nesting (class_at s i).class ls ≡ misplaced → form_from (suc k) s i ls ≡ Err i
   unfolding form_from
   form_misplaced q = rw (form_from, lt-ltb i (length s) h, q)
 

@@ -5,7 +5,7 @@ use mathlib.Core.Bool.{Bool, true, false, ◌&&◌, not, and-false}
 use mathlib.Core.List.{List, [], ◌∷◌}
 use Prim.Native.Nat.{ℕ, ◌+◌, ◌-◌, ◌*◌, ◌%◌, ◌≤◌, ◌<◌}
 use native.Mathlib.Omega.{arith}
-use lib.Dec.{leb, eqb, ltb}
+use lib.Dec.{eqb, ltb}
 use lib.ListN.{length, get_or}
 use borrow.Author.Tests.{lt-leb, le-leb, eq-eqb, ne_eqb, lt-ltb, le-ltb, leb-true}
 use Rattle.base.specs.If.{when◌then◌else◌}
@@ -18,7 +18,7 @@ use Rattle.edition.specs.declared.Edition.{Edition}
 use Rattle.edition.specs.Edition.{ok_edition}
 use Rattle.entry.specs.declared.Sizes.{Sizes}
 use Rattle.entry.specs.declared.Tables.{Tables}
-use Rattle.entry.specs.Limits.{magic, header_size, file_most, short_most, names_least, names_most, number_width, offset_width, short_width}
+use Rattle.entry.specs.Limits.{magic, header_size, file_most, names_least, number_width, offset_width, short_width}
 use Rattle.entry.specs.State.{ok_boolean, ok_slot, half}
 use Rattle.base.specs.Answer.{Answer, refused, gives, map_answer}
 use Rattle.entry.specs.Layout.{sizes_of, size_of, tables_of, booleans_at, numbers_at, strings_at, table_at}
@@ -30,35 +30,9 @@ use Rattle.file_tables.specs.Framed.{Shorts, Framed, OffsetsEnd}
 
 -- ---- the header's counts
 
-module _ (s : Sizes) where
-  pub counts_least : s.names < names_least → false ≡ ok_counts s
-  unfolding ok_counts
-  counts_least h = rw (lt-leb _ _ h)
-
-  pub counts_names : names_most < s.names → false ≡ ok_counts s
-  unfolding ok_counts
-  counts_names h = simp (lt-leb _ _ h, and-false)
-
-  pub counts_booleans : short_most < s.booleans → false ≡ ok_counts s
-  unfolding ok_counts
-  counts_booleans h = simp (lt-leb _ _ h, and-false)
-
-  pub counts_numbers : short_most < s.numbers → false ≡ ok_counts s
-  unfolding ok_counts
-  counts_numbers h = simp (lt-leb _ _ h, and-false)
-
-  pub counts_strings : short_most < s.strings → false ≡ ok_counts s
-  unfolding ok_counts
-  counts_strings h = simp (lt-leb _ _ h, and-false)
-
-  pub counts_table : names_least ≤ s.names → s.names ≤ names_most → s.booleans ≤ short_most → s.numbers ≤ short_most → s.strings ≤ short_most
-      → leb s.table short_most ≡ ok_counts s
-  unfolding ok_counts
-  counts_table a b c d e = rw (le-leb _ _ a, le-leb _ _ b, le-leb _ _ c, le-leb _ _ d, le-leb _ _ e)
-
-  pub counts_named : ok_counts s ≡ true → names_least ≤ s.names
-  unfolding ok_counts
-  counts_named h = leb-true _ _ (and_left _ _ h)
+pub counts_named : (s : Sizes) → ok_counts s ≡ true → names_least ≤ s.names
+unfolding ok_counts
+counts_named s h = leb-true _ _ (and_left _ _ h)
 
 -- ---- the tables' places
 

@@ -17,16 +17,11 @@ use entry::{
     Sizes, Tables,
 };
 
+#[tactic(auto, unfolding(entry::specs::State::ok_boolean))]
 fn boolean_ok(c: u8) -> bool
     ensures { result ≡ ok_boolean c }
 {
-    if c == 0 {
-        return true;
-    }
-    if c == 1 {
-        return true;
-    }
-    c == CANCELLED_BYTE
+    c == 0 || c == 1 || c == CANCELLED_BYTE
 }
 
 // The first bad boolean byte of n from at on; n where there is none.
@@ -34,27 +29,20 @@ fn first_bad_boolean(file: &[u8], at: usize, n: usize) -> usize
     requires { at + n ≤ length file.now }
     ensures { result ≡ scan (λ i. ok_boolean (get_or file.now (at + i) 0)) 0 n }
 {
-    let mut i = 0;
-    while i < n {
+    for i in 0..n {
         if !boolean_ok(file[at + i]) {
             return i;
         }
-        i += 1;
     }
-    i
+    n
 }
 
 // A mark, or a code below the bound.
+#[tactic(auto, unfolding(entry::specs::State::ok_slot))]
 fn slot_ok(c: usize, bound: usize) -> bool
     ensures { result ≡ ok_slot short_width (λ d. ltb d bound) c }
 {
-    if c < bound {
-        return true;
-    }
-    if c == ABSENT_MARK {
-        return true;
-    }
-    c == CANCELLED_MARK
+    c < bound || c == ABSENT_MARK || c == CANCELLED_MARK
 }
 
 // The first bad slot of n from at on, where codes below the bound are good; n where there is none.
@@ -63,14 +51,12 @@ fn first_bad_slot(file: &[u8], at: usize, n: usize, bound: usize) -> usize
     ensures { result ≡ scan (λ i. ok_slot short_width (λ d. ltb d bound)
         (word short_width file.now (at + short_width * i))) 0 n }
 {
-    let mut i = 0;
-    while i < n {
+    for i in 0..n {
         if !slot_ok(word::short_at(file, at + 2 * i), bound) {
             return i;
         }
-        i += 1;
     }
-    i
+    n
 }
 
 // One past the last NUL of the table of n bytes from at on, counted from at; 0 where it has none. The offsets below
@@ -79,14 +65,12 @@ fn offsets_end(file: &[u8], at: usize, n: usize) -> usize
     requires { at + n ≤ length file.now }
     ensures { OffsetsEnd file.now at n result }
 {
-    let mut end = n;
-    while 0 < end {
-        if file[at + (end - 1)] == 0 {
-            return end;
+    for i in (0..n).rev() {
+        if file[at + i] == 0 {
+            return i + 1;
         }
-        end -= 1;
     }
-    end
+    0
 }
 
 // The first NUL of the names is their last byte.

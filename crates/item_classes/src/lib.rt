@@ -10,16 +10,7 @@ ghost use Rattle.expansion.specs.Form.{class_at};
 ghost use Rattle.item_parts.specs.Classes.{item_class, other_at};
 
 use expansion::{Class, Classed};
-use item_parts::{Braced, braced_at, byte_at, is_digit, is_letter, is_nonzero, is_quoted};
-
-fn classed(class: Class, next: usize) -> Classed
-    ensures { result ≡ record { class = class; next = next } }
-{
-    Classed {
-        class: class,
-        next: next,
-    }
-}
+use item_parts::{braced_at, byte_at, classed, is_digit, is_letter, is_nonzero, is_quoted};
 
 fn format_class(s: &[u8], k: usize) -> Classed
     requires { k ≤ length s.now + 3 }
@@ -78,11 +69,11 @@ fn constant_class(s: &[u8], j: usize) -> Classed
     ensures { result ≡ item_class (braced_at s.now j) }
 {
     match braced_at(s, j) {
-        Braced::Constant { value: _, next } => Classed {
+        Some(constant) => Classed {
             class: Class::Plain,
-            next: next,
+            next: constant.next,
         },
-        Braced::Wrong => Classed {
+        None => Classed {
             class: Class::Wrong,
             next: j,
         },
@@ -149,7 +140,7 @@ fn percent_class(s: &[u8], j: usize) -> Classed
     let next = j + 1;
     match c {
         b'p' => argument_class(s, j),
-        39 => quoted_class(s, j),
+        b'\'' => quoted_class(s, j),
         b'{' => constant_class(s, j),
         b'P' | b'g' => variable_class(s, j),
         b'%' | b'c' | b'o' | b'x' | b'X' | b'!' | b'~' | b'i' => classed(Class::Plain, next),

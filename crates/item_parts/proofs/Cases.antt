@@ -29,10 +29,6 @@ use Rattle.item_parts.specs.Right.{ArgumentTested}
 pub within_true : (a b x : ℕ) → within a b x ≡ true → (a ≤ x) × (x ≤ b)
 within_true a b x e = (leb-true a x (and_left (leb a x) (leb x b) e), leb-true x b (and_right (leb a x) (leb x b) e))
 
-pub or_false : (b : Bool) → (b || false) ≡ b
-or_false true = refl
-or_false false = refl
-
 -- ---- the byte after `%`
 
 -- the item whose second byte is x and stands at j

@@ -1,6 +1,6 @@
 -- What the functions that lex parts of an item give.
 -- Assumes nothing.
-use Rattle.std.specs.Prelude.{Bool, true, false, ◌&&◌, not, List, ℕ, ◌+◌, eqb}
+use Rattle.std.specs.Prelude.{Bool, true, false, ◌&&◌, not, List, ℕ, ◌+◌, eqb, Option, Some, None}
 use Prim.Native.Char.{code}
 use Rattle.base.specs.If.{when◌then◌else◌}
 use Rattle.expansion.specs.declared.Item.TheVariants.{Constant}
@@ -9,7 +9,6 @@ use Rattle.expansion.specs.declared.Classed.{Classed}
 use Rattle.expansion.specs.Items.{byte_at, is_nonzero, lexed, wrong, width_at}
 use Rattle.expansion.specs.Form.{class_of}
 use Rattle.item_parts.specs.declared.Braced.{Braced}
-use Rattle.item_parts.specs.declared.Braced.TheVariants as B
 
 -- an item's class and the place behind it
 abbrev pub item_class : Lexed → Classed
@@ -20,9 +19,9 @@ abbrev pub quoted : List ℕ → ℕ → Bool
 quoted s j = not (eqb (byte_at s (j + 1)) 0) && eqb (byte_at s (j + 2)) (code "'")
 
 -- the constant in braces whose `{` is at j
-abbrev pub lexed_constant : Braced → ℕ → Lexed
-lexed_constant (B.Constant v n) j = lexed (Constant v) n
-lexed_constant B.Wrong j = wrong j
+abbrev pub lexed_constant : Option Braced → ℕ → Lexed
+lexed_constant (Some b) j = lexed (Constant b.value) b.next
+lexed_constant None j = wrong j
 
 -- the item whose second byte, at j, starts no other item
 abbrev pub other_at : List ℕ → ℕ → Lexed

@@ -7,6 +7,8 @@ ghost use Rattle.expansion.specs.Items.{byte_at, is_digit, is_nonzero, is_letter
 ghost use Rattle.item_parts.specs.Classes.{quoted, lexed_constant};
 ghost use Rattle.item_parts.specs.Right.{ArgumentTested};
 
+use expansion::{Class, Classed};
+
 // The largest constant.
 const CONSTANT_MOST: u64 = 2147483647;
 
@@ -20,59 +22,64 @@ pub fn byte_at(s: &[u8], i: usize) -> u8
 pub fn is_digit(c: u8) -> bool
     ensures { result ≡ is_digit c }
 {
-    48 <= c && c <= 57
+    c.is_ascii_digit()
 }
 
 pub fn is_nonzero(c: u8) -> bool
     ensures { result ≡ is_nonzero c }
 {
-    49 <= c && c <= 57
+    matches!(c, b'1'..=b'9')
 }
 
 pub fn is_letter(c: u8) -> bool
     ensures { result ≡ is_letter c }
 {
-    if 97 <= c {
-        return c <= 122;
-    }
-    65 <= c && c <= 90
+    c.is_ascii_alphabetic()
 }
 
-// A constant in braces and the place behind it, or none.
+// An item's class and the place behind it.
+pub fn classed(class: Class, next: usize) -> Classed
+    ensures { result ≡ record { class = class; next = next } }
+{
+    Classed {
+        class: class,
+        next: next,
+    }
+}
+
+// A constant in braces and the place behind it.
 #[derive(Clone, Copy)]
-pub enum Braced {
-    Constant { value: i32, next: usize },
-    Wrong,
+pub struct Braced {
+    pub value: i32,
+    pub next: usize,
 }
 
 // `%{digits}`
-pub fn braced_at(s: &[u8], j: usize) -> Braced
+pub fn braced_at(s: &[u8], j: usize) -> Option<Braced>
     requires { j ≤ length s.now }
     ensures { lexed_constant result j ≡ braced_at s.now j }
 {
     if !is_digit(byte_at(s, j + 1)) {
-        return Braced::Wrong;
+        return None;
     }
-    let mut i = j + 1;
     let mut v: u64 = 0;
-    while i < s.len() {
+    for i in j + 1..s.len() {
         let c = s[i];
         if c == b'}' {
-            return Braced::Constant {
+            return Some(Braced {
                 value: v as i32,
                 next: i + 1,
-            };
+            });
         }
         if !is_digit(c) {
-            return Braced::Wrong;
+            return None;
         }
-        v = v * 10 + (c - 48) as u64;
+        v = v * 10 + (c - b'0') as u64;
         if v > CONSTANT_MOST {
-            return Braced::Wrong;
+            return None;
         }
-        i += 1;
     }
-    Braced::Wrong
+    None
 }
 
 // Whether the two bytes behind `%'` are a byte that is no NUL and `'`.
@@ -83,10 +90,11 @@ pub fn is_quoted(s: &[u8], j: usize) -> bool
     if byte_at(s, j + 1) == 0 {
         return false;
     }
-    byte_at(s, j + 2) == 39
+    byte_at(s, j + 2) == b'\''
 }
 
-// Whether `%p`, a digit from 1 on and `%t` stand at a place. The last byte tells most often that they don't.
+// Whether `%p`, a digit from 1 on and `%t` stand at a place. The last byte tells most often that they don't: a pattern
+// of five bytes tests the first one first, and is slower.
 pub fn tests_argument(s: &[u8], i: usize) -> bool
     requires { i ≤ length s.now }
     ensures { result ≡ true → ArgumentTested s.now i }

@@ -1,5 +1,5 @@
 // The items of a right string, for its run (document 01: Expansion). The check for 14 has accepted them, so that no
-// test is made that it has made. Proved: `item_at` reads itemAt of the crate expansion at each right item. Assumed:
+// test is made that it has made. Proved: `item_at` reads `item_at` of the crate expansion at each right item. Assumed:
 // nothing.
 #![tactic(auto)]
 
@@ -14,7 +14,8 @@ ghost use Rattle.items.specs.Reading.{ReadAs};
 
 use expansion::{Base, Item, Operator};
 
-// An item as the run reads it: those that it takes by itself, and any other with the place behind it.
+// An item as the run reads it: those that it takes by itself, and any other with the place behind it. Flat, and not a
+// place beside an `Item`, since the run has one match on it, and the place of most is told by the item alone.
 #[derive(Clone, Copy)]
 pub enum RunItem {
     // a byte that stands for itself
@@ -78,8 +79,9 @@ fn braced_at(s: &[u8], j: usize) -> RunItem
 {
     let mut i = j + 1;
     let mut v: u64 = 0;
+    // the `}` ends the digits of a right constant: a range has a test for the string's end besides
     while s[i] != b'}' {
-        v = v * 10 + (s[i] - 48) as u64;
+        v = v * 10 + (s[i] - b'0') as u64;
         i += 1;
     }
     RunItem::Constant {
@@ -109,9 +111,9 @@ fn width_at(s: &[u8], k: usize, zero: bool) -> RunItem
     let c = s[k];
     let d = s[k + 1];
     if d <= b'9' {
-        format_at(s, k + 2, zero, (c - 48) * 10 + (d - 48))
+        format_at(s, k + 2, zero, (c - b'0') * 10 + (d - b'0'))
     } else {
-        format_at(s, k + 1, zero, c - 48)
+        format_at(s, k + 1, zero, c - b'0')
     }
 }
 
@@ -135,7 +137,7 @@ fn other_at(s: &[u8], j: usize) -> RunItem
     match c {
         b'P' => other(Item::Store(s[j + 1]), j + 2),
         b'g' => other(Item::Load(s[j + 1]), j + 2),
-        b'%' => other(Item::Byte(37), next),
+        b'%' => other(Item::Byte(b'%'), next),
         b'c' => other(Item::Character, next),
         b'd' => number(Base::Decimal, false, 0, next),
         b'o' => number(Base::Octal, false, 0, next),
@@ -166,7 +168,7 @@ fn condition(s: &[u8], i: usize) -> RunItem
     ensures { ReadAs s.now i result }
 {
     if item_parts::tests_argument(s, i + 2) {
-        RunItem::Test((s[i + 4] - 49) as usize)
+        RunItem::Test((s[i + 4] - b'1') as usize)
     } else {
         RunItem::If
     }
@@ -182,8 +184,8 @@ pub fn item_at(s: &[u8], i: usize) -> RunItem
         return RunItem::Byte(c);
     }
     match s[i + 1] {
-        b'p' => RunItem::Argument((s[i + 2] - 49) as usize),
-        39 => RunItem::Constant {
+        b'p' => RunItem::Argument((s[i + 2] - b'1') as usize),
+        b'\'' => RunItem::Constant {
             value: s[i + 2] as i32,
             next: i + 4,
         },

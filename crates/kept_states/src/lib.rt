@@ -2,14 +2,27 @@
 // Proved: each function keeps what compile_laws/specs says. Assumed: nothing.
 #![tactic(auto)]
 
-ghost use Rattle.std.specs.Prelude.{◌≡◌, [], ◌<◌, eqb, length, get_or};
+ghost use Rattle.std.specs.Prelude.{◌≡◌, List, ℕ, [], ◌<◌, eqb, length, get_or};
+ghost use Rattle.entry.specs.Handed.{handed_by};
 ghost use Rattle.judge.specs.Judged.{SaidIn};
-ghost use Rattle.entry.specs.Handed.{handed};
 ghost use Rattle.compile_laws.specs.Held.{Holds, Keeps, kept};
+ghost use Rattle.kept_states.specs.States.{held, none_held};
 
-use edition::{Edition, Place};
-use entry::ABSENT;
+use edition::{BOOLEANS_MOST, Edition, NUMBERS_MOST, Place, STRINGS_MOST};
+use entry::{ABSENT, Numbers, States as Lent, Strings};
 use text::Said;
+
+// The states of one entry, by place: kinds and contents, as the writer takes them. A present string is the part of the
+// text that starts at its start; its length is how many bytes it stands for.
+#[derive(Drop)]
+pub struct States {
+    pub boolean_kinds: [u8; BOOLEANS_MOST],
+    pub number_kinds: [u8; NUMBERS_MOST],
+    pub number_values: [u32; NUMBERS_MOST],
+    pub string_kinds: [u8; STRINGS_MOST],
+    pub string_starts: [usize; STRINGS_MOST],
+    pub string_lengths: [usize; STRINGS_MOST],
+}
 
 // The capability at a place has no state yet.
 fn is_new(kinds: &[u8], place: Place) -> bool
@@ -65,42 +78,65 @@ fn keep_string(
     }
 }
 
-// Keeps what a field says.
-pub fn keep(
-    text: &[u8],
-    edition: Edition,
-    said: Said,
-    boolean_kinds: &mut [u8],
-    number_kinds: &mut [u8],
-    number_values: &mut [u32],
-    string_kinds: &mut [u8],
-    string_starts: &mut [usize],
-    string_lengths: &mut [usize],
-)
-    requires { SaidIn edition text.now said
-        × Holds edition (handed [] boolean_kinds.old number_kinds.old number_values.old
-        string_kinds.old string_starts.old string_lengths.old text.now) }
-    ensures { Keeps edition (λ n. handed n boolean_kinds.old number_kinds.old
-        number_values.old string_kinds.old string_starts.old
-        string_lengths.old text.now) (λ n. handed n boolean_kinds.new
-        number_kinds.new number_values.new string_kinds.new
-        string_starts.new string_lengths.new text.now) said }
-{
-    match said {
-        Said::Nothing => {}
-        Said::Boolean(place, kind) => keep_boolean(boolean_kinds, place, kind),
-        Said::Number(place, kind, value) => {
-            keep_number(number_kinds, number_values, place, kind, value)
+impl States {
+    // All states are absent. (All arrays are of zeros, so that one call clears them where they stand: an array of
+    // another word is cleared, filled, and then copied to its place.)
+    pub fn new() -> States
+        ensures { result ≡ none_held }
+    {
+        States {
+            boolean_kinds: [ABSENT; BOOLEANS_MOST],
+            number_kinds: [ABSENT; NUMBERS_MOST],
+            number_values: [0; NUMBERS_MOST],
+            string_kinds: [ABSENT; STRINGS_MOST],
+            string_starts: [0; STRINGS_MOST],
+            string_lengths: [0; STRINGS_MOST],
         }
-        Said::String(place, kind, start, size) => keep_string(
-            string_kinds,
-            string_starts,
-            string_lengths,
-            place,
-            kind,
-            start,
-            size,
-        ),
-        Said::Use(_, _) => {}
+    }
+
+    // Keeps what a field says.
+    pub fn keep(&mut self, text: &[u8], edition: Edition, said: Said)
+        requires { SaidIn edition text.now said × Holds edition (held self.old text.now []) }
+        ensures { Keeps edition (held self.old text.now) (held self.new text.now) said }
+    {
+        match said {
+            Said::Nothing => {}
+            Said::Boolean(place, kind) => keep_boolean(&mut self.boolean_kinds, place, kind),
+            Said::Number(place, kind, value) => keep_number(
+                &mut self.number_kinds,
+                &mut self.number_values,
+                place,
+                kind,
+                value,
+            ),
+            Said::String(place, kind, start, size) => keep_string(
+                &mut self.string_kinds,
+                &mut self.string_starts,
+                &mut self.string_lengths,
+                place,
+                kind,
+                start,
+                size,
+            ),
+            Said::Use(_, _) => {}
+        }
+    }
+
+    // The states as the writer takes them.
+    pub fn lent(&self) -> Lent<'_>
+        ensures { (text names : List ℕ) → handed_by names result text ≡ held self.now text names }
+    {
+        Lent {
+            boolean_kinds: &self.boolean_kinds,
+            numbers: Numbers {
+                kinds: &self.number_kinds,
+                values: &self.number_values,
+            },
+            strings: Strings {
+                kinds: &self.string_kinds,
+                starts: &self.string_starts,
+                lengths: &self.string_lengths,
+            },
+        }
     }
 }

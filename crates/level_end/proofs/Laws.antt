@@ -5,6 +5,7 @@ use mathlib.Core.Bool.{Bool, true, false}
 use mathlib.Core.List.{List}
 use Prim.Native.Nat.{ℕ, zero, suc, ◌-◌, ◌≤◌, ◌<◌}
 use native.Mathlib.Omega.{arith}
+use Rattle.std.specs.Prelude.{Option, Some, None}
 use Rattle.base.specs.If.{when◌then◌else◌}
 use Rattle.expansion.specs.declared.Class.{Class}
 use Rattle.expansion.specs.declared.Class.TheVariants.{Plain, If, Then, Else, End, Wrong}
@@ -16,40 +17,38 @@ use Rattle.expansion_laws.specs.Passes.{passed_to}
 use Rattle.level_laws.specs.Levels.{PastLevel, OpenAt}
 use Rattle.level_laws.proofs.OpenLaws.{open_inside, open_go, open_passed, open_stopped}
 use Rattle.level_laws.proofs.Ends.{levels_end}
-use Rattle.level_end.specs.declared.Turn.{Turn}
-use Rattle.level_end.specs.declared.Turn.TheVariants.{Go, Stop}
 use Rattle.level_end.specs.Turns.{as_turn, turn_of}
 
 -- ---- the code's turn
 
-never : {A : Type 0} {n : ℕ} → Stop ≡ Go n → A
+never : {A : Type 0} {n : ℕ} → None ≡ Some n → A
 never e = absurd (let z : ◌≡◌ {A = ℕ} 0 1 = cc in (let y : ⊥ = omega arith in y))
 
-turn_go : (p : Passing) (n : ℕ) → as_turn p ≡ Go n → p ≡ opens n
+turn_go : (p : Passing) (n : ℕ) → as_turn p ≡ Some n → p ≡ opens n
 turn_go stops n e = never e
 turn_go (opens d) n e = cc
 
-turn_stop : (p : Passing) → as_turn p ≡ Stop → p ≡ stops
+turn_stop : (p : Passing) → as_turn p ≡ None → p ≡ stops
 turn_stop stops e = refl
 turn_stop (opens d) e = never (sym e)
 
-pub else_level : (elses : Bool) (d : ℕ) → d ≡ 0 → turn_of elses Else d ≡ (when elses then Stop else Go d)
+pub else_level : (elses : Bool) (d : ℕ) → d ≡ 0 → turn_of elses Else d ≡ (when elses then None else Some d)
 unfolding passing
 else_level true zero e = refl
 else_level false zero e = refl
 else_level elses (suc d) e = absurd (let y : ⊥ = omega arith in y)
 
-pub else_inner : (elses : Bool) (d : ℕ) → (d ≡ 0 → ⊥) → turn_of elses Else d ≡ Go d
+pub else_inner : (elses : Bool) (d : ℕ) → (d ≡ 0 → ⊥) → turn_of elses Else d ≡ Some d
 unfolding passing
 else_inner elses zero n = absurd (n refl)
 else_inner elses (suc d) n = refl
 
-pub end_level : (elses : Bool) (d : ℕ) → d ≡ 0 → turn_of elses End d ≡ Stop
+pub end_level : (elses : Bool) (d : ℕ) → d ≡ 0 → turn_of elses End d ≡ None
 unfolding passing
 end_level elses zero e = refl
 end_level elses (suc d) e = absurd (let y : ⊥ = omega arith in y)
 
-pub end_inner : (elses : Bool) (d : ℕ) → (d ≡ 0 → ⊥) → turn_of elses End d ≡ Go (d - 1)
+pub end_inner : (elses : Bool) (d : ℕ) → (d ≡ 0 → ⊥) → turn_of elses End d ≡ Some (d - 1)
 unfolding passing
 end_inner elses zero n = absurd (n refl)
 end_inner elses (suc d) n = let e : suc d - 1 ≡ d = omega arith in rw e
@@ -85,7 +84,7 @@ pub along_start : (s : List ℕ) (from : ℕ) (elses : Bool) → OpenAt s from 0
 along_start s from elses o = record { start = o; there = o; same = refl; few = omega arith }
 
 module _ {s : List ℕ} {from : ℕ} {elses : Bool} {i d : ℕ} (a : Along s from elses i d) {k : Classed}
-    (q : k ≡ class_at s i) {r : Turn} (e : r ≡ turn_of elses k.class d) where
+    (q : k ≡ class_at s i) {r : Option ℕ} (e : r ≡ turn_of elses k.class d) where
   next : k.next ≡ (class_at s i).next
   next = ap (λ (x : Classed). x.next) q
 
@@ -95,7 +94,7 @@ module _ {s : List ℕ} {from : ℕ} {elses : Bool} {i d : ℕ} (a : Along s fro
   pub along_on : i < k.next
   along_on = omega (arith, next, class_on s i (open_inside a.there))
 
-  pub along_go : (n : ℕ) → r ≡ Go n → Along s from elses k.next n
+  pub along_go : (n : ℕ) → r ≡ Some n → Along s from elses k.next n
   along_go n u =
       let p : passing elses (class_at s i).class d ≡ opens n = turn_go _ n (sym turn ∙ u) in
       rw next
@@ -106,7 +105,7 @@ module _ {s : List ℕ} {from : ℕ} {elses : Bool} {i d : ℕ} (a : Along s fro
         few = omega (arith, ap inner_of p, few_inner elses (class_at s i).class d, a.few, next, along_on);
       })
 
-  pub along_stop : r ≡ Stop → PastLevel elses s from k.next
+  pub along_stop : r ≡ None → PastLevel elses s from k.next
   along_stop u =
       let p : passing elses (class_at s i).class d ≡ stops = turn_stop _ (sym turn ∙ u) in
       let t : passed_to elses s from 0 ≡ k.next = a.same ∙ open_stopped a.there elses p ∙ sym next in

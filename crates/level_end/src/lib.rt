@@ -10,33 +10,23 @@ ghost use Rattle.level_end.specs.Turns.{turn_of, inner_most};
 
 use expansion::Class;
 
-// What a passed item comes to: go on with so many conditionals open inside the level, or stop behind the item.
-#[derive(Clone, Copy)]
-enum Turn {
-    Go(u64),
-    Stop,
-}
-
-// What an item of a class does where so many conditionals are open inside the level; `%e` ends it if elses is set.
-fn opened(class: Class, elses: bool, inner: u64) -> Turn
+// How many conditionals are open inside the level behind an item of a class, of so many before it; none where the item
+// ends the level, as `%e` does if elses is set.
+fn opened(class: Class, elses: bool, inner: u64) -> Option<u64>
     requires { inner < inner_most }
     ensures { result ≡ turn_of elses class inner }
 {
     match class {
-        Class::Plain => Turn::Go(inner),
-        Class::If => Turn::Go(inner + 1),
-        Class::Then => Turn::Go(inner),
+        Class::Plain => Some(inner),
+        Class::If => Some(inner + 1),
+        Class::Then => Some(inner),
         Class::Else => if inner == 0 {
-            if elses { Turn::Stop } else { Turn::Go(inner) }
+            if elses { None } else { Some(inner) }
         } else {
-            Turn::Go(inner)
+            Some(inner)
         },
-        Class::End => if inner == 0 {
-            Turn::Stop
-        } else {
-            Turn::Go(inner - 1)
-        },
-        Class::Wrong => Turn::Go(inner),
+        Class::End => if inner == 0 { None } else { Some(inner - 1) },
+        Class::Wrong => Some(inner),
     }
 }
 
@@ -45,6 +35,7 @@ pub fn pass(s: &[u8], from: usize, elses: bool) -> usize
     requires { (length s.now ≤ string_most) × OpenAt s.now from 0 }
     ensures { PastLevel elses s.now from result }
 {
+    // a cursor that moves by an item's size: no range counts it
     let mut i: usize = from;
     let mut inner: u64 = 0;
     loop {
@@ -52,11 +43,11 @@ pub fn pass(s: &[u8], from: usize, elses: bool) -> usize
         let class = c.class;
         let next = c.next;
         match opened(class, elses, inner) {
-            Turn::Go(n) => {
+            Some(n) => {
                 i = next;
                 inner = n;
             }
-            Turn::Stop => return next,
+            None => return next,
         }
     }
 }

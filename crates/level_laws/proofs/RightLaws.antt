@@ -10,7 +10,7 @@ use native.Mathlib.Omega.{arith}
 use lib.ListN.{length}
 use Rattle.base.proofs.IfLaws.{below_or}
 use Rattle.expansion.specs.declared.Item.TheVariants as I
-use Rattle.expansion.specs.declared.Form.TheVariants.{Right, Wrong}
+use Rattle.std.specs.Prelude.{Ok, Err}
 use Rattle.expansion.specs.Items.{item_at}
 use Rattle.expansion.specs.Form.{class_of, class_at, Level, Nesting, levels, misplaced, nesting, form_of}
 use Rattle.item_parts.specs.Right.{RightItem}
@@ -20,7 +20,7 @@ use Rattle.level_laws.specs.Levels.{PastLevel, OpenAt, RightAt}
 use Rattle.level_laws.proofs.OpenLaws.{right_there}
 use Rattle.level_laws.proofs.Ends.{levels_end}
 
-pub right_start : {s : List ℕ} → form_of s ≡ Right → RightAt s 0
+pub right_start : {s : List ℕ} → form_of s ≡ Ok tt → RightAt s 0
 right_start {s} e = (levels_end s).start e
 
 module _ {s : List ℕ} {i : ℕ} (r : RightAt s i) (h : i < length s) where
@@ -54,12 +54,12 @@ passed_right elses {s} {i} o = (levels_end s).past elses i o
 
 -- ---- a string whose form is wrong
 
-wrong_at_end : (s : List ℕ) (ls : List Level) {p : ℕ} → form_at_end s ls ≡ Wrong p → p ≤ length s
+wrong_at_end : (s : List ℕ) (ls : List Level) {p : ℕ} → form_at_end s ls ≡ Err p → p ≤ length s
 wrong_at_end s [] e = absurd (let z : ◌≡◌ {A = ℕ} 0 1 = cc in (let y : ⊥ = omega arith in y))
 wrong_at_end s (l ∷ ls) {p} e = let q : length s ≡ p = cc in omega arith
 
 -- by what is left of the string
-wrong_from : (k : ℕ) (s : List ℕ) (i : ℕ) (ls : List Level) {p : ℕ} → length s - i < k → form_of_rest s i ls ≡ Wrong p
+wrong_from : (k : ℕ) (s : List ℕ) (i : ℕ) (ls : List Level) {p : ℕ} → length s - i < k → form_of_rest s i ls ≡ Err p
     → p ≤ length s
 wrong_from zero s i ls h e = absurd (not-suc-le-zero h)
 wrong_from (suc k) s i ls {p} h e =
@@ -71,11 +71,11 @@ wrong_from (suc k) s i ls {p} h e =
     (λ l. wrong_at_end s ls (sym (form_end s i ls l) ∙ e))
   where
     by_nesting : (n : Nesting) → i < length s
-        → ((ms : List Level) → form_of_rest s (class_at s i).next ms ≡ Wrong p → p ≤ length s)
-        → form_behind s i n ≡ Wrong p → p ≤ length s
+        → ((ms : List Level) → form_of_rest s (class_at s i).next ms ≡ Err p → p ≤ length s)
+        → form_behind s i n ≡ Err p → p ≤ length s
     by_nesting (levels ms) l again q = again ms q
     by_nesting misplaced l again q = let u : i ≡ p = cc in omega arith
 
 -- the place that is told is in the string, or its length
-pub wrong_inside : (s : List ℕ) {p : ℕ} → form_of s ≡ Wrong p → p ≤ length s
+pub wrong_inside : (s : List ℕ) {p : ℕ} → form_of s ≡ Err p → p ≤ length s
 wrong_inside s e = wrong_from (suc (length s)) s 0 [] (omega arith) (sym (form_start s) ∙ e)

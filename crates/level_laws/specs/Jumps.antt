@@ -2,9 +2,8 @@
 -- wherever the steps of a string whose form is right lead, `%t` on 0 and `%e` go where document 01 says. `jumps_end`
 -- of proofs/Jumps.antt says that this is so for every string, all arguments and all variables.
 -- Assumes nothing.
-use Rattle.std.specs.Prelude.{◌≡◌, true, false, List, [], ◌∷◌, ℕ, ◌<◌, ℤ, pos, length}
+use Rattle.std.specs.Prelude.{◌≡◌, true, false, List, [], ◌∷◌, ℕ, ◌<◌, ℤ, pos, length, Ok}
 use Rattle.expansion.specs.declared.Item.TheVariants.{Then, Else}
-use Rattle.expansion.specs.declared.Form.TheVariants.{Right}
 use Rattle.expansion.specs.Items.{item_at}
 use Rattle.expansion.specs.Form.{form_of}
 use Rattle.expansion.specs.Values.{Value, number}
@@ -24,5 +23,5 @@ pub record Jumps (s : List ℕ) (p : Point) : Type 0 where
       × (step s p ≡ leads (further p r p.machine []))
 
 abbrev pub JumpsEnd : Type 0
-JumpsEnd = (s : List ℕ) (arguments : List Value) (lasting : List ℤ) (p : Point) → form_of s ≡ Right
+JumpsEnd = (s : List ℕ) (arguments : List Value) (lasting : List ℤ) (p : Point) → form_of s ≡ Ok tt
     → Reaches s (start_of arguments lasting) p → p.place < length s → Jumps s p

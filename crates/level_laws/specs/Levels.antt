@@ -1,10 +1,9 @@
 -- Where a conditional's level ends (document 01: Expansion): "on 0 go past the next `%e` of this level, or past its
 -- `%;` if there is none. A reached `%e` goes past the `%;`."
 -- Assumes nothing.
-use Rattle.std.specs.Prelude.{◌≡◌, Bool, true, false, List, ℕ, suc, ◌≤◌, ◌<◌, length}
+use Rattle.std.specs.Prelude.{◌≡◌, Bool, true, false, List, ℕ, suc, ◌≤◌, ◌<◌, length, Ok}
 use Rattle.expansion.specs.declared.Class.{Class}
 use Rattle.expansion.specs.declared.Class.TheVariants.{Plain, If, Then, Else, End, Wrong}
-use Rattle.expansion.specs.declared.Form.TheVariants.{Right}
 use Rattle.expansion.specs.Form.{class_at, Level}
 use Rattle.expansion_laws.specs.Forms.{form_of_rest}
 
@@ -54,7 +53,7 @@ PastLevel elses s i r = (p : ℕ) × LevelEnd elses s i p × (r ≡ (class_at s 
 
 -- it is right from place i on, with the conditionals ls open there
 abbrev pub RightFrom : List ℕ → ℕ → List Level → Type 0
-RightFrom s i ls = form_of_rest s i ls ≡ Right
+RightFrom s i ls = form_of_rest s i ls ≡ Ok tt
 
 -- it is right from place i on, and a level is open there in which d conditionals are open
 pub record OpenAt (s : List ℕ) (i d : ℕ) : Type 0 where

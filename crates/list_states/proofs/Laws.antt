@@ -8,6 +8,7 @@ use native.Mathlib.Omega.{arith}
 use lib.Dec.{leb}
 use lib.ListN.{length, set}
 use borrow.Author.Tests.{le-leb, lt-leb, leb-true}
+use Rattle.std.specs.Prelude.{Err}
 use Rattle.base.specs.If.{when◌then◌else◌}
 use Rattle.base.proofs.IfLaws.{true_false, and_left, and_right}
 use Rattle.base.specs.Tabulate.{tabulate}
@@ -18,12 +19,17 @@ use Rattle.base.specs.Answer.{Answer, refused, gives, is_given}
 use Rattle.edition.specs.declared.Edition.{Edition}
 use Rattle.edition.specs.Edition.{ok_edition}
 use Rattle.entry.specs.declared.Tables.{Tables}
-use Rattle.entry.specs.Asking.{opening}
+use Rattle.entry.specs.declared.Opening.{Opening}
+use Rattle.entry.specs.declared.Part.{Part}
+use Rattle.entry.specs.State.{State, absent, cancelled, present}
+use Rattle.entry.specs.Asking.{opening, part_given}
 use Rattle.entry_laws.specs.Accepted.{test_passed}
 use Rattle.entry_laws.specs.Merge.{edition_counts}
 use Rattle.opened_file.specs.Opened.{OpenedAs}
-use Rattle.list_states.specs.Listing.{Arrays, arrays, Rooms, rooms_of, states_of, room_for, listing, arrays_after, Lists}
-use Rattle.list_states.specs.Filled.{AllLent, CountsFit}
+use Rattle.list_states.specs.declared.ListRefusal.{ListRefusal}
+use Rattle.list_states.specs.declared.ListRefusal.TheVariants as L
+use Rattle.list_states.specs.Listing.{Arrays, arrays, Rooms, rooms_of, present_or, states_of, room_for, listing, arrays_after, Lists, says_listed}
+use Rattle.list_states.specs.Filled.{CountsFit}
 
 -- ---- a loop that fills an array by place
 
@@ -44,6 +50,13 @@ filled_more g b₀ b i v h e q =
 pub filled_all : (g : ℕ → ℕ) (b₀ b : List ℕ) (i n : ℕ) → i ≡ n → b ≡ put_at b₀ 0 (tabulate g i)
     → b ≡ put_at b₀ 0 (tabulate g n)
 filled_all g b₀ b i n q e = subst (λ (m : ℕ). b ≡ put_at b₀ 0 (tabulate g m)) q e
+
+-- the part of a state that presents one, and the empty part otherwise
+pub part_or : (a : Answer (State Part)) → present_or (record { start = 0; length = 0 }) a ≡ part_given a
+part_or (refused n v) = refl
+part_or (gives absent) = refl
+part_or (gives cancelled) = refl
+part_or (gives (present p)) = refl
 
 -- ---- the arrays' rooms, in the order of refusal
 
@@ -122,10 +135,17 @@ passed true n v rest q = (refl, q)
 passed false n v rest q = true_false (ap is_given q)
 
 -- where there is room, every array is long enough
-pub rooms_lent : {e : Edition} {f : List ℕ} {t : Tables} (a : Arrays) → OpenedAs e f t → gives tt ≡ room_for e (rooms_of a)
-    → AllLent e f t a
+pub record Lent (e : Edition) (a : Arrays) : Type 0 where
+  pub boolean_kinds : e.booleans ≤ length a.boolean_kinds
+  pub number_kinds : e.numbers ≤ length a.number_kinds
+  pub number_values : e.numbers ≤ length a.number_values
+  pub string_kinds : e.strings ≤ length a.string_kinds
+  pub string_starts : e.strings ≤ length a.string_starts
+  pub string_lengths : e.strings ≤ length a.string_lengths
+
+pub rooms_lent : (e : Edition) (a : Arrays) → gives tt ≡ room_for e (rooms_of a) → Lent e a
 unfolding room_for
-rooms_lent {e} a o q =
+rooms_lent e a q =
     let x = passed (leb e.booleans (length a.boolean_kinds)) 8 (e.booleans ∷ []) _ q in
     let y = passed (leb e.numbers (length a.number_kinds) && leb e.numbers (length a.number_values)) 8
     (e.numbers ∷ []) _ x.1 in
@@ -133,13 +153,12 @@ rooms_lent {e} a o q =
     && leb e.strings (length a.string_lengths))) 8 (e.strings ∷ []) _ y.1 in
     let w = and_right (leb e.strings (length a.string_kinds)) _ z.0 in
     record {
-      opened = o;
-      boolean_kinds_lent = leb-true _ _ x.0;
-      number_kinds_lent = leb-true _ _ (and_left (leb e.numbers (length a.number_kinds)) _ y.0);
-      number_values_lent = leb-true _ _ (and_right (leb e.numbers (length a.number_kinds)) _ y.0);
-      string_kinds_lent = leb-true _ _ (and_left (leb e.strings (length a.string_kinds)) _ z.0);
-      string_starts_lent = leb-true _ _ (and_left (leb e.strings (length a.string_starts)) _ w);
-      string_lengths_lent = leb-true _ _ (and_right (leb e.strings (length a.string_starts)) _ w);
+      boolean_kinds = leb-true _ _ x.0;
+      number_kinds = leb-true _ _ (and_left (leb e.numbers (length a.number_kinds)) _ y.0);
+      number_values = leb-true _ _ (and_right (leb e.numbers (length a.number_kinds)) _ y.0);
+      string_kinds = leb-true _ _ (and_left (leb e.strings (length a.string_kinds)) _ z.0);
+      string_starts = leb-true _ _ (and_left (leb e.strings (length a.string_starts)) _ w);
+      string_lengths = leb-true _ _ (and_right (leb e.strings (length a.string_starts)) _ w);
     }
 
 -- ---- the answers
@@ -155,6 +174,10 @@ pub list_refused : (e : Edition) (f : List ℕ) (a : Arrays) (n : ℕ) (v : List
 unfolding listing
 list_refused e f a n v q = record { answer = rw (← q); lent = rw (← q) }
 
+-- opening gave these tables
+pub as_opened : {e : Edition} {f : List ℕ} {o : Opening} → gives o ≡ opening e f → OpenedAs e f o.tables
+as_opened {e} {f} {o} q = record { beyond = o.beyond; given = q }
+
 module _ {e : Edition} {f : List ℕ} {t : Tables} (o : OpenedAs e f t) where
   -- an opened file's edition passes, so that its counts are bounded
   pub opened_counts : CountsFit e
@@ -167,9 +190,17 @@ module _ {e : Edition} {f : List ℕ} {t : Tables} (o : OpenedAs e f t) where
       (omega arith, (omega arith, s))
 
   -- an array is too short
-  pub list_short : (a : Arrays) (n : ℕ) (v : List ℕ) → refused n v ≡ room_for e (rooms_of a) → Lists e f a a (refused n v)
+  pub list_short : (a : Arrays) (w : ListRefusal) → says_listed (Err w) ≡ room_for e (rooms_of a)
+      → Lists e f a a (says_listed (Err w))
   unfolding listing
-  list_short a n v q = record { answer = rw (← o.given, ← q); lent = rw (← o.given, ← q) }
+  list_short a w = by_cases w
+    where
+      refused_room : (n : ℕ) (v : List ℕ) → refused n v ≡ room_for e (rooms_of a) → Lists e f a a (refused n v)
+      refused_room n v q = record { answer = rw (← o.given, ← q); lent = rw (← o.given, ← q) }
+
+      by_cases : (r : ListRefusal) → says_listed (Err r) ≡ room_for e (rooms_of a) → Lists e f a a (says_listed (Err r))
+      by_cases (L.File r) q = refused_room _ _ q
+      by_cases (L.Room n) q = refused_room _ _ q
 
   -- the states stand in the arrays
   pub list_states : (a c : Arrays) → gives tt ≡ room_for e (rooms_of a) → c ≡ arrays_after a (gives (states_of e f))

@@ -1,19 +1,20 @@
 -- Every state of an edition in one call: what it answers and what it leaves in the lent arrays (document 01: Compiled
 -- entry; Numbers of refusal). Each array has a number for each place of its list, as the writer takes them.
 -- Assumes nothing.
-use Rattle.std.specs.Prelude.{◌≡◌, ◌&&◌, not, List, [], ◌∷◌, ℕ, ◌≤◌, ◌<◌, leb, length}
+use Rattle.std.specs.Prelude.{◌≡◌, ◌&&◌, not, List, [], ◌∷◌, ℕ, ◌≤◌, ◌<◌, leb, length, Result, Ok, Err}
 use Rattle.base.specs.If.{when◌then◌else◌}
 use Rattle.base.specs.Tabulate.{tabulate}
 use Rattle.base.specs.Overwrite.{put_at}
 use Rattle.base.specs.Answer.{Answer, refused, gives, map_answer, and_then}
 use Rattle.edition.specs.declared.Edition.{Edition}
 use Rattle.edition.specs.Edition.{place, strings_most}
-use Rattle.entry.specs.State.{State, absent, cancelled, present}
+use Rattle.entry.specs.State.{State}
 use Rattle.entry.specs.Asking.{opening, asking_boolean, asking_number, asking_string, part_given}
 use Rattle.entry.specs.Limits.{file_most}
 use Rattle.entry.specs.Says.{file_position, refused_file}
-use Rattle.list_states.specs.declared.Listed.{Listed}
-use Rattle.list_states.specs.declared.Listed.TheVariants as L
+use Rattle.list_states.specs.declared.ListRefusal.{ListRefusal}
+use Rattle.list_states.specs.declared.ListRefusal.TheVariants as L
+pub use Rattle.opened_file.specs.Kinds.{kind_given, present_or}
 
 -- ---- the lent arrays
 
@@ -64,19 +65,10 @@ rooms_of a =
 
 -- ---- a state by numbers
 
--- 0 absent, 1 present, 2 cancelled. Nothing is refused at a place that the edition knows
-abbrev pub kind_given : {A : Type 0} → Answer (State A) → ℕ
-kind_given (refused n v) = 0
-kind_given (gives absent) = 0
-kind_given (gives cancelled) = 2
-kind_given (gives (present x)) = 1
-
--- a present number; in every other case 0. A string's part is `part_given`, whose start and length are 0 likewise
+-- Its kind is `kind_given`. A present number; in every other case 0. A string's part is `part_given`, whose start and
+-- length are 0 likewise. Nothing is refused at a place that the edition knows
 abbrev pub value_given : Answer (State ℕ) → ℕ
-value_given (refused n v) = 0
-value_given (gives absent) = 0
-value_given (gives cancelled) = 0
-value_given (gives (present x)) = x
+value_given a = present_or 0 a
 
 -- ---- the states of an edition: at each place that it knows, what asking gives there
 
@@ -132,10 +124,10 @@ arrays_after before (gives a) =
 abbrev pub done : {A : Type 0} → A → Unit {0}
 done x = tt
 
-abbrev pub says_listed : Listed → Answer (Unit {0})
-says_listed L.Done = gives tt
-says_listed (L.Refused r) = refused_file r
-says_listed (L.Room n) = refused 8 (n ∷ [])
+abbrev pub says_listed : Result (Unit {0}) ListRefusal → Answer (Unit {0})
+says_listed (Ok x) = gives tt
+says_listed (Err (L.File r)) = refused_file r
+says_listed (Err (L.Room n)) = refused 8 (n ∷ [])
 
 -- what a call says, and the arrays before it and after it
 pub record Lists (e : Edition) (f : List ℕ) (before after : Arrays) (says : Answer (Unit {0})) : Type 0 where
@@ -143,7 +135,7 @@ pub record Lists (e : Edition) (f : List ℕ) (before after : Arrays) (says : An
   pub lent : after ≡ arrays_after before (listing e f (rooms_of before))
 
 -- a position is one of a file, and the count of a refusal 8 one of an edition's
-abbrev pub ValueFits : Listed → Type 0
-ValueFits L.Done = Unit {0}
-ValueFits (L.Refused r) = file_position r < file_most
-ValueFits (L.Room n) = n ≤ strings_most
+abbrev pub ValueFits : Result (Unit {0}) ListRefusal → Type 0
+ValueFits (Ok x) = Unit {0}
+ValueFits (Err (L.File r)) = file_position r < file_most
+ValueFits (Err (L.Room n)) = n ≤ strings_most

@@ -2,7 +2,8 @@
 // `looking_up` of names/specs says. Assumed: nothing.
 #![tactic(auto)]
 
-ghost use Rattle.std.specs.Prelude.{◌≡◌, ◌+◌, ◌<◌, length, get_or};
+ghost use Rattle.std.specs.Prelude.{◌≡◌, ◌+◌, ◌<◌, length, get_or, Some, None};
+ghost use Rattle.base.specs.If.{when◌then◌else◌};
 ghost use Rattle.word.specs.Word.{word};
 ghost use Rattle.names.specs.Lookup.{looking_up};
 ghost use Rattle.names.specs.Searching.{sought, searching, known_in};
@@ -270,52 +271,47 @@ fn place_of(number: u64) -> usize
 }
 
 // The capability that a name means in the second edition, which knows every name.
-pub fn find_all(name: &[u8]) -> Found
+pub fn find_all(name: &[u8]) -> Option<Found>
     ensures { result ≡ looking_up second_edition name.now }
 {
     let k = place_of(pack(name));
     if k < names::BOOLEANS {
-        return Found::Boolean(Place(k));
+        return Some(Found::Boolean(Place(k)));
     }
     let numbers_end = names::BOOLEANS + names::NUMBERS;
     if k < numbers_end {
-        return Found::Number(Place(k - names::BOOLEANS));
+        return Some(Found::Number(Place(k - names::BOOLEANS)));
     }
     if k < names::ALL {
-        return Found::String(Place(k - numbers_end));
+        return Some(Found::String(Place(k - numbers_end)));
     }
-    Found::Unknown
+    None
+}
+
+// Whether an edition knows a capability.
+fn is_known(edition: Edition, found: Found) -> bool
+    ensures { (when result then Some found else None) ≡ known_in edition (Some found) }
+{
+    match found {
+        Found::Boolean(p) => p.0 < edition.booleans,
+        Found::Number(p) => p.0 < edition.numbers,
+        Found::String(p) => p.0 < edition.strings,
+    }
 }
 
 // What an edition knows of a capability that is found.
-pub fn known_in(edition: Edition, found: Found) -> Found
+pub fn known_in(edition: Edition, found: Option<Found>) -> Option<Found>
     ensures { result ≡ known_in edition found }
 {
-    match found {
-        Found::Boolean(p) => {
-            if p.0 < edition.booleans {
-                return found;
-            }
-            Found::Unknown
-        }
-        Found::Number(p) => {
-            if p.0 < edition.numbers {
-                return found;
-            }
-            Found::Unknown
-        }
-        Found::String(p) => {
-            if p.0 < edition.strings {
-                return found;
-            }
-            Found::Unknown
-        }
-        Found::Unknown => Found::Unknown,
+    if is_known(edition, found?) {
+        found
+    } else {
+        None
     }
 }
 
 // The capability that a name means in an edition.
-pub fn find(name: &[u8], edition: Edition) -> Found
+pub fn find(name: &[u8], edition: Edition) -> Option<Found>
     ensures { result ≡ looking_up edition name.now }
 {
     known_in(edition, find_all(name))

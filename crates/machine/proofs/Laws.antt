@@ -3,7 +3,7 @@
 use mathlib.Core.Path.{◌≡◌, refl, sym, ap}
 use mathlib.Core.Bool.{Bool, true, false}
 use mathlib.Core.List.{List, []}
-use Prim.Native.Nat.{ℕ, ◌+◌, ◌-◌, ◌<◌}
+use Prim.Native.Nat.{ℕ, ◌+◌, ◌<◌}
 use native.Mathlib.Omega.{arith}
 use lib.Dec.{leb}
 use lib.IntN.{ℤ}
@@ -13,10 +13,13 @@ use Rattle.base.specs.Overwrite.{put_at}
 use Rattle.base.proofs.OverwriteLaws.{put_nil}
 use Rattle.expansion.specs.declared.Item.{Item}
 use Rattle.expansion.specs.declared.Item.TheVariants as I
+use Rattle.expansion.specs.declared.Operator.{Operator}
+use Rattle.item_parts.specs.Right.{Simple}
 use Rattle.print.specs.Emit.{emitted}
 use Rattle.expansion.specs.Values.{Value}
-use Rattle.expansion.specs.Machine.{arity, effect, loaded}
+use Rattle.expansion.specs.Machine.{Machine, arity, effect, loaded}
 use Rattle.machine.specs.declared.Step.TheVariants.{Go}
+use Rattle.machine.specs.Steps.{SteppedAs, step_of, machine_after}
 use Rattle.variables.specs.Machines.{machine}
 
 pub emitted_nothing : (b : List ℕ) (at : ℕ) → b ≡ emitted b at []
@@ -52,3 +55,27 @@ effect_same I.Then st st' x y z a a' b b' h g = rw (h (omega arith))
 effect_same I.Else st st' x y z a a' b b' h g = refl
 effect_same I.End st st' x y z a a' b b' h g = refl
 effect_same I.Wrong st st' x y z a a' b b' h g = refl
+
+-- an item that prints, stores and computes nothing does nothing
+pub others_go : (k : Item) (m : Machine) (a b : Value) (w : ℕ) (out : List ℕ) → Simple k → ((c : ℕ) → k ≡ I.Byte c → ⊥) → (k ≡ I.Character → ⊥)
+    → ((c : ℕ) → k ≡ I.Store c → ⊥) → ((c : ℕ) → k ≡ I.Load c → ⊥) → ((o : Operator) → k ≡ I.Binary o → ⊥) → (k ≡ I.Not → ⊥) → (k ≡ I.Invert → ⊥)
+    → SteppedAs (effect k m a b) w m m out out (Go w)
+unfolding effect step_of machine_after
+others_go (I.Byte c) m a b w out s p q r t u v x = absurd (p c refl)
+others_go (I.Argument n) m a b w out s p q r t u v x = absurd s
+others_go (I.Number d f n) m a b w out s p q r t u v x = absurd s
+others_go I.Character m a b w out s p q r t u v x = absurd (q refl)
+others_go I.Text m a b w out s p q r t u v x = absurd s
+others_go I.Length m a b w out s p q r t u v x = absurd s
+others_go (I.Constant n) m a b w out s p q r t u v x = absurd s
+others_go (I.Store c) m a b w out s p q r t u v x = absurd (r c refl)
+others_go (I.Load c) m a b w out s p q r t u v x = absurd (t c refl)
+others_go (I.Binary o) m a b w out s p q r t u v x = absurd (u o refl)
+others_go I.Not m a b w out s p q r t u v x = absurd (v refl)
+others_go I.Invert m a b w out s p q r t u v x = absurd (x refl)
+others_go I.Increment m a b w out s p q r t u v x = absurd s
+others_go I.If m a b w out s p q r t u v x = record { step = no_more _; after = refl; output = emitted_nothing _ _ }
+others_go I.Then m a b w out s p q r t u v x = absurd s
+others_go I.Else m a b w out s p q r t u v x = absurd s
+others_go I.End m a b w out s p q r t u v x = record { step = no_more _; after = refl; output = emitted_nothing _ _ }
+others_go I.Wrong m a b w out s p q r t u v x = record { step = no_more _; after = refl; output = emitted_nothing _ _ }

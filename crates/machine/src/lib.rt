@@ -27,28 +27,16 @@ pub fn arity(item: Item) -> usize
     ensures { result ≡ arity item }
 {
     match item {
-        Item::Byte(_) => 0,
-        Item::Argument(_) => 0,
-        Item::Number {
-            base: _,
-            zero: _,
-            width: _,
-        } => 1,
-        Item::Character => 1,
-        Item::Text => 1,
-        Item::Length => 1,
-        Item::Constant(_) => 0,
-        Item::Store(_) => 1,
-        Item::Load(_) => 0,
         Item::Binary(_) => 2,
-        Item::Not => 1,
-        Item::Invert => 1,
-        Item::Increment => 0,
-        Item::If => 0,
-        Item::Then => 1,
-        Item::Else => 0,
-        Item::End => 0,
-        Item::Wrong => 0,
+        Item::Number { .. }
+        | Item::Character
+        | Item::Text
+        | Item::Length
+        | Item::Store(_)
+        | Item::Not
+        | Item::Invert
+        | Item::Then => 1,
+        _ => 0,
     }
 }
 
@@ -73,19 +61,10 @@ pub fn take(
             print::put_byte(out, written, c);
             Step::Go(written + 1)
         }
-        Item::Argument(_) => Step::Go(written),
-        Item::Number {
-            base: _,
-            zero: _,
-            width: _,
-        } => Step::Go(written),
         Item::Character => {
             print::put_byte(out, written, characters::byte_of(b));
             Step::Go(written + 1)
         }
-        Item::Text => Step::Go(written),
-        Item::Length => Step::Go(written),
-        Item::Constant(_) => Step::Go(written),
         Item::Store(c) => {
             store(locals, lasting, c, b);
             Step::Go(written)
@@ -94,11 +73,6 @@ pub fn take(
         Item::Binary(o) => Step::Push(operators::applied(o, a, b)),
         Item::Not => Step::Push(operators::negated(b)),
         Item::Invert => Step::Push(operators::inverted(b)),
-        Item::Increment => Step::Go(written),
-        Item::If => Step::Go(written),
-        Item::Then => Step::Go(written),
-        Item::Else => Step::Go(written),
-        Item::End => Step::Go(written),
-        Item::Wrong => Step::Go(written),
+        _ => Step::Go(written),
     }
 }

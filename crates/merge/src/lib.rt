@@ -8,14 +8,13 @@ ghost use Rattle.base.specs.Answer.{Leaves};
 ghost use Rattle.entry.specs.Writing.{encode, entry_of};
 ghost use Rattle.entry.specs.Merging.{merging};
 ghost use Rattle.entry.specs.Says.{says_merged};
-ghost use Rattle.opened_file.specs.Opened.{OpenedAs};
-ghost use Rattle.entry.specs.Handed.{handed};
-ghost use Rattle.merge_states.specs.Filled.{BothOpened, Measured, StringsGiven, Ready};
+ghost use Rattle.entry.specs.Handed.{handed_by};
+ghost use Rattle.merge_states.specs.Filled.{AreOpened, Measured, StringsGiven, Ready};
 ghost use Rattle.merge_states.specs.Answers.{Fitted, Merges};
 
 use edition::{BOOLEANS_MOST, Edition, NUMBERS_MOST, STRINGS_MOST};
-use entry::{FILE_MOST, Judged, Merged, Tables};
-use merge_states::TableSize;
+use entry::{FILE_MOST, MergeRefusal, Numbers, States, Strings};
+use merge_states::Both;
 
 // A string's start and length before it is filled, which nobody reads. Not 0, so that vector instructions store it
 // and no memset.
@@ -23,160 +22,113 @@ const UNFILLED: usize = 1;
 
 // Writes what is handed over, if the file fits. Its strings stand in the two files, and their table has so many bytes.
 fn write_fitting(
-    edition: Edition,
+    both: &Both<'_>,
     names: &[u8],
-    boolean_kinds: &[u8],
-    number_kinds: &[u8],
-    number_values: &[u32],
-    string_kinds: &[u8],
-    string_starts: &[usize],
-    string_lengths: &[usize],
-    first: &[u8],
-    second: &[u8],
+    states: &States<'_>,
     table: usize,
     buffer: &mut [u8],
-) -> Merged
-    requires { Ready edition (handed names.now boolean_kinds.now number_kinds.now number_values.now
-        string_kinds.now string_starts.now string_lengths.now (first.now ++ second.now)) first.now
-        second.now table }
-    ensures { Fitted (encode (entry_of edition
-        (handed names.now boolean_kinds.now number_kinds.now
-        number_values.now string_kinds.now string_starts.now
-        string_lengths.now (first.now ++ second.now)))) buffer.old
+) -> Result<usize, MergeRefusal>
+    requires { Ready both.now.edition (handed_by names.now states.now (both.now.first.now ++ both.now.second.now))
+        both.now.first.now both.now.second.now table }
+    ensures { Fitted (encode (entry_of both.now.edition
+        (handed_by names.now states.now (both.now.first.now ++ both.now.second.now)))) buffer.old
         buffer.new (says_merged result) }
 {
-    let s = write_file::sizes_with(edition, names, table);
+    let s = write_file::sizes_with(both.edition, names, table);
     let size = write_file::file_size(s);
     if FILE_MOST < size {
-        return Merged::Size;
+        return Err(MergeRefusal::Size);
     }
     if buffer.len() < size {
-        return Merged::Room(size);
+        return Err(MergeRefusal::Room(size));
     }
-    write_file::write_sure(
-        buffer,
-        s,
-        edition,
-        names,
-        boolean_kinds,
-        number_kinds,
-        number_values,
-        string_kinds,
-        string_starts,
-        string_lengths,
-        first,
-        second,
-    );
-    Merged::File(size)
+    let edition = both.edition;
+    write_file::write_sure(buffer, s, edition, names, states, both.first, both.second);
+    Ok(size)
 }
 
-// Merges two files that are opened in the edition, whose strings are filled: the names are the first file's.
+// Merges two files whose strings are filled: the names are the first file's.
 fn merge_filled(
-    first: &[u8],
-    t: Tables,
-    second: &[u8],
-    u: Tables,
-    edition: Edition,
-    string_kinds: &[u8],
-    string_starts: &[usize],
-    string_lengths: &[usize],
+    both: &Both<'_>,
+    strings: &Strings<'_>,
     table: usize,
     buffer: &mut [u8],
-) -> Merged
-    requires { BothOpened edition first.now t second.now u
-        × (Measured edition first.now second.now string_kinds.now string_starts.now string_lengths.now
-        table × StringsGiven edition string_kinds.now string_starts.now string_lengths.now) }
-    ensures { Merges edition first.now second.now buffer.old
+) -> Result<usize, MergeRefusal>
+    requires { AreOpened both.now
+        × (Measured both.now.edition both.now.first.now both.now.second.now strings.now.kinds.now
+        strings.now.starts.now strings.now.lengths.now table
+        × StringsGiven both.now.edition strings.now.kinds.now strings.now.starts.now strings.now.lengths.now) }
+    ensures { Merges both.now.edition both.now.first.now both.now.second.now buffer.old
         buffer.new (says_merged result) }
 {
     let mut boolean_kinds = [0u8; BOOLEANS_MOST];
     let mut number_kinds = [0u8; NUMBERS_MOST];
     let mut number_values = [0u32; NUMBERS_MOST];
-    merge_states::fill_booleans(&mut boolean_kinds, first, t, second, u, edition);
-    merge_states::fill_numbers(
-        &mut number_kinds,
-        &mut number_values,
-        first,
-        t,
-        second,
-        u,
-        edition,
-    );
-    let part = opened_file::names_opened(first, edition, t);
+    both.fill_booleans(&mut boolean_kinds);
+    both.fill_numbers(&mut number_kinds, &mut number_values);
+    let states = States {
+        boolean_kinds: &boolean_kinds,
+        numbers: Numbers {
+            kinds: &number_kinds,
+            values: &number_values,
+        },
+        strings: *strings,
+    };
+    let part = opened_file::names_opened(both.first, both.edition, both.t);
     let start = part.start;
     let end = part.start + part.length;
-    write_fitting(
-        edition,
-        &first[start..end],
-        &boolean_kinds,
-        &number_kinds,
-        &number_values,
-        string_kinds,
-        string_starts,
-        string_lengths,
-        first,
-        second,
-        table,
-        buffer,
-    )
+    write_fitting(both, &both.first[start..end], &states, table, buffer)
 }
 
-// Merges two files that are opened in the edition. Both are accepted, so a string table that is too large is refused
-// at once.
-fn merge_opened(
-    first: &[u8],
-    t: Tables,
-    second: &[u8],
-    u: Tables,
-    edition: Edition,
-    buffer: &mut [u8],
-) -> Merged
-    requires { BothOpened edition first.now t second.now u }
-    ensures { Merges edition first.now second.now buffer.old
+// Merges two opened files. Both are accepted, so a string table that is too large is refused at once.
+fn merge_opened(both: &Both<'_>, buffer: &mut [u8]) -> Result<usize, MergeRefusal>
+    requires { AreOpened both.now }
+    ensures { Merges both.now.edition both.now.first.now both.now.second.now buffer.old
         buffer.new (says_merged result) }
 {
     let mut kinds = [0u8; STRINGS_MOST];
     let mut starts = [UNFILLED; STRINGS_MOST];
     let mut lengths = [UNFILLED; STRINGS_MOST];
-    match merge_states::fill_strings(
-        &mut kinds,
-        &mut starts,
-        &mut lengths,
+    match both.fill_strings(&mut kinds, &mut starts, &mut lengths) {
+        Some(table) => {
+            let strings = Strings {
+                kinds: &kinds,
+                starts: &starts,
+                lengths: &lengths,
+            };
+            merge_filled(both, &strings, table, buffer)
+        }
+        None => Err(MergeRefusal::Size),
+    }
+}
+
+// Merges the first file over the second at the buffer's start, or refuses and leaves the buffer as it is.
+pub fn merge(
+    first: &[u8],
+    second: &[u8],
+    edition: Edition,
+    buffer: &mut [u8],
+) -> Result<usize, MergeRefusal>
+    ensures { Leaves (merging edition first.now second.now
+        (length buffer.old)) buffer.old buffer.new (says_merged result) }
+{
+    if !edition::edition_ok(edition) {
+        return Err(MergeRefusal::Edition);
+    }
+    let t = match read::judge(first) {
+        Ok(s) => read::tables_for(s),
+        Err(why) => return Err(MergeRefusal::First(why)),
+    };
+    let u = match read::judge(second) {
+        Ok(s) => read::tables_for(s),
+        Err(why) => return Err(MergeRefusal::Second(why)),
+    };
+    let both = Both {
         first,
         t,
         second,
         u,
         edition,
-    ) {
-        TableSize::Bytes(table) => merge_filled(
-            first, t, second, u, edition, &kinds, &starts, &lengths, table, buffer,
-        ),
-        TableSize::TooLarge => Merged::Size,
-    }
-}
-
-// Merges a file that is opened in the edition over one that is still to be judged.
-fn merge_over(first: &[u8], t: Tables, second: &[u8], edition: Edition, buffer: &mut [u8]) -> Merged
-    requires { OpenedAs edition first.now t }
-    ensures { Merges edition first.now second.now buffer.old
-        buffer.new (says_merged result) }
-{
-    match read::judge(second) {
-        Judged::Accepted(s) => merge_opened(first, t, second, read::tables_for(s), edition, buffer),
-        Judged::Refused(why) => Merged::Second(why),
-    }
-}
-
-// Merges the first file over the second at the buffer's start, or refuses and leaves the buffer as it is.
-pub fn merge(first: &[u8], second: &[u8], edition: Edition, buffer: &mut [u8]) -> Merged
-    ensures { Leaves (merging edition first.now second.now
-        (length buffer.old)) buffer.old buffer.new (says_merged result) }
-{
-    if !edition::edition_ok(edition) {
-        return Merged::Edition;
-    }
-    match read::judge(first) {
-        Judged::Accepted(s) => merge_over(first, read::tables_for(s), second, edition, buffer),
-        Judged::Refused(why) => Merged::First(why),
-    }
+    };
+    merge_opened(&both, buffer)
 }

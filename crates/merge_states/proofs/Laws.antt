@@ -21,12 +21,6 @@ use Rattle.edition.specs.Edition.{ok_edition, place, knows, booleans_most, numbe
 use Rattle.entry.specs.declared.Sizes.{Sizes}
 use Rattle.entry.specs.declared.Tables.{Tables}
 use Rattle.entry.specs.declared.Part.{Part}
-use Rattle.entry.specs.declared.BooleanState.{BooleanState}
-use Rattle.entry.specs.declared.BooleanState.TheVariants as B
-use Rattle.entry.specs.declared.NumberState.{NumberState}
-use Rattle.entry.specs.declared.NumberState.TheVariants as N
-use Rattle.entry.specs.declared.StringState.{StringState}
-use Rattle.entry.specs.declared.StringState.TheVariants as S
 use Rattle.entry.specs.Limits.{file_most}
 use Rattle.entry.specs.State.{State, absent, cancelled, present, map_state}
 use Rattle.base.specs.Answer.{Answer, refused, gives, and_then, is_given, Leaves}
@@ -35,7 +29,6 @@ use Rattle.entry.specs.Reading.{bytes_of, reading, names_part, part_in, string_i
 use Rattle.entry.specs.Asking.{opening, asking, asking_names, asking_boolean, asking_number, asking_string}
 use Rattle.entry.specs.Writing.{Handed, state_of, string_handed, string_table, sizes_for, encode, entry_of, fitting}
 use Rattle.entry.specs.Merging.{over, merged_boolean, merged_number, merged_string, merged, of_file, merging}
-use Rattle.entry.specs.Says.{says_boolean, says_number, says_string}
 use Rattle.entry_laws.specs.Accepted.{Accepted, test_passed, reading_accepted, names_most_lem}
 use Rattle.entry_laws.specs.Asked.{asking_gives}
 use Rattle.entry_laws.specs.Parts.{length_encode}
@@ -43,14 +36,13 @@ use Rattle.entry_laws.specs.Merge.{given_and_then, of_file_given, edition_counts
 use Rattle.file_tables.proofs.Laws.{open_file}
 use Rattle.opened_file.specs.Opened.{OpenedAs}
 use Rattle.opened_file.proofs.Laws.{asking_given, opened_accepted, string_inside}
+use Rattle.opened_file.specs.Kinds.{kind_given, present_or}
 use Rattle.put.specs.Table.{string_of, string_at, table_bytes, total, InPools}
 use Rattle.put.proofs.TableLaws.{in_first, bytes_present, bytes_none, length_part, strings_more, table_below, table_total, lent_length, lent_described}
 use Rattle.entry.specs.Handed.{handed}
 use Rattle.write_laws.specs.File.{Sure, sizes_with, sizes_handed}
 use Rattle.write_laws.proofs.FileLaws.{length_with}
-use Rattle.merge_states.specs.declared.HandedNumber.{HandedNumber}
-use Rattle.merge_states.specs.declared.HandedString.{HandedString}
-use Rattle.merge_states.specs.Filled.{BothOpened, boolean_kind, handed_number, handed_string, BooleansFilled, NumbersFilled, StringFilled, StringsFilled, merged_table, Measured, StringsGiven, Ready}
+use Rattle.merge_states.specs.Filled.{BothOpened, BooleansFilled, NumbersFilled, StringFilled, StringsFilled, merged_table, Measured, StringsGiven, Ready}
 use Rattle.merge_states.specs.Answers.{Fitted, Merges}
 
 -- ---- opened files
@@ -100,21 +92,51 @@ pub over_leaves : {A : Type 0} (k : ℕ) (x : A) (s t : State A) → state_of k 
 unfolding state_of over
 over_leaves k x s t q z = rw (← q, z)
 
-pub boolean_says : (s : BooleanState) (x : State Unit) → says_boolean s ≡ gives x → state_of (boolean_kind s) tt ≡ x
+-- what is given is the state itself
+pub given_boolean : (w : Answer (State Unit)) (x : State Unit) (k : ℕ) → w ≡ gives x → k ≡ kind_given w → state_of k tt ≡ x
 unfolding state_of
-boolean_says B.Absent x q = cc
-boolean_says B.Cancelled x q = cc
-boolean_says B.Present x q = cc
-boolean_says B.Refused x q = cc
+given_boolean w x k q d = ap (λ (j : ℕ). state_of j tt) (d ∙ ap kind_given q) ∙ by_state x
+  where
+    by_state : (x : State Unit) → state_of (kind_given (gives x)) tt ≡ x
+    by_state absent = refl
+    by_state cancelled = refl
+    by_state (present tt) = refl
 
-pub number_says : (s : NumberState) (x : State ℕ) → says_number s ≡ gives x → state_of (handed_number s).kind (handed_number s).value ≡ x
+given_state : {A : Type 0} (d : A) (x : State A) → state_of (kind_given (gives x)) (present_or d (gives x)) ≡ x
 unfolding state_of
-number_says N.Absent x q = cc
-number_says N.Cancelled x q = cc
-number_says (N.Present n) x q = cc
-number_says N.Refused x q = cc
+given_state d absent = refl
+given_state d cancelled = refl
+given_state d (present y) = refl
+
+pub given_number : (w : Answer (State ℕ)) (x : State ℕ) (k v : ℕ) → w ≡ gives x → k ≡ kind_given w → v ≡ present_or 0 w → state_of k v ≡ x
+given_number w x k v q d g =
+    ap (λ (j : ℕ). state_of j v) (d ∙ ap kind_given q) ∙ ap (state_of (kind_given (gives x))) (g ∙ ap (present_or 0) q) ∙ given_state 0 x
+
+-- a first state that is not absent stands
+pub stands : {A : Type 0} (w : Answer (State A)) (x y : State A) → w ≡ gives x → (kind_given w ≡ 0 → ⊥) → w ≡ gives (over x y)
+unfolding over
+stands {A} w x y q n = q ∙ ap gives (by_state x (λ z. n (ap kind_given q ∙ z)))
+  where
+    by_state : (x : State A) → (kind_given (gives x) ≡ 0 → ⊥) → x ≡ over x y
+    by_state absent n = absurd (n refl)
+    by_state cancelled n = refl
+    by_state (present v) n = refl
+
+-- one that is absent leaves the second
+pub leaves : {A : Type 0} (w v : Answer (State A)) (x y : State A) → w ≡ gives x → kind_given w ≡ 0 → v ≡ gives y → v ≡ gives (over x y)
+unfolding over
+leaves {A} w v x y q z r = r ∙ ap gives (by_state x (sym (ap kind_given q) ∙ z))
+  where
+    by_state : (x : State A) → kind_given (gives x) ≡ 0 → y ≡ over x y
+    by_state absent n = refl
+    by_state cancelled n = absurd (let z : ⊥ = omega arith in z)
+    by_state (present v) n = absurd (let z : ⊥ = omega arith in z)
 
 -- ---- a string in the two files
+
+-- what stands for the part of a string that is not present
+abbrev pub no_part : Part
+no_part = record { start = 0; length = 0 }
 
 -- a present part lies in the file
 abbrev PartIn : List ℕ → State Part → Type 0
@@ -125,91 +147,76 @@ module _ {e : Edition} {f : List ℕ} {t : Tables} (o : OpenedAs e f t) (p : Pla
   part_in_lem q d = string_inside e f p q (sym (asking_gives e f (knows e.strings p) _ _ (given o) (lt-ltb p.0 e.strings h) d))
 
   -- where a string starts, as it is handed over
-  pub start_most : (s : StringState) → says_string s ≡ asking_string e f p → (handed_string s).start ≤ file_most
-  start_most s q = by_state s (said o e.strings p (says_string s) (part_in f (sizes_of f) p) h q)
+  pub start_most : (w : Answer (State Part)) → w ≡ asking_string e f p → (present_or no_part w).start ≤ file_most
+  start_most w q = by_state (part_in f (sizes_of f) p) part_in_lem (said o e.strings p w (part_in f (sizes_of f) p) h q)
     where
-      by_state : (r : StringState) → says_string r ≡ gives (part_in f (sizes_of f) p) → (handed_string r).start ≤ file_most
-      by_state S.Absent d = omega arith
-      by_state S.Cancelled d = omega arith
-      by_state (S.Present r) d =
-          let i : r.start + r.length ≤ length f = part_in_lem r cc in
+      by_state : (x : State Part) → PartIn f x → w ≡ gives x → (present_or no_part w).start ≤ file_most
+      by_state absent i d = rw d (omega arith)
+      by_state cancelled i d = rw d (omega arith)
+      by_state (present r) i d =
+          let l : r.start + r.length ≤ length f = i r refl in
           let m = (opened_file o).most in
-          omega arith
-      by_state S.Refused d = omega arith
+          rw d (omega arith)
 
 -- strings of a file f whose byte at a place stands in the two files at `at` of it
 module _ (a b f : List ℕ) (at : ℕ → ℕ) (moved : (q : Part) → q.start + q.length ≤ length f → take q.length (drop (at q.start) (a ++ b)) ≡ bytes_of f q)
     (pools : (q : Part) → q.start + q.length ≤ length f → InPools (at q.start) q.length a b) where
-  moved_string : (s : StringState) (x : State Part) → says_string s ≡ gives x → PartIn f x
-      → (string_of (handed_string s).kind (at (handed_string s).start) (handed_string s).length (a ++ b) ≡ map_state (bytes_of f) x)
-      × ((handed_string s).kind ≡ 1 → InPools (at (handed_string s).start) (handed_string s).length a b)
+  moved_string : (x : State Part) → PartIn f x
+      → (string_of (kind_given (gives x)) (at (present_or no_part (gives x)).start) (present_or no_part (gives x)).length (a ++ b) ≡ map_state (bytes_of f) x)
+      × (kind_given (gives x) ≡ 1 → InPools (at (present_or no_part (gives x)).start) (present_or no_part (gives x)).length a b)
   unfolding state_of
-  moved_string S.Absent x q i = (let d : absent ≡ x = cc in ap (map_state (bytes_of f)) d, λ k. absurd (let z : ⊥ = omega arith in z))
-  moved_string S.Cancelled x q i = (let d : cancelled ≡ x = cc in ap (map_state (bytes_of f)) d, λ k. absurd (let z : ⊥ = omega arith in z))
-  moved_string (S.Present p) x q i =
-      let d : present p ≡ x = cc in
-      (ap present (moved p (i p (sym d))) ∙ ap (map_state (bytes_of f)) d, λ k. pools p (i p (sym d)))
-  moved_string S.Refused x q i = (let d : absent ≡ x = cc in ap (map_state (bytes_of f)) d, λ k. absurd (let z : ⊥ = omega arith in z))
+  moved_string absent i = (refl, λ k. absurd (let z : ⊥ = omega arith in z))
+  moved_string cancelled i = (refl, λ k. absurd (let z : ⊥ = omega arith in z))
+  moved_string (present p) i = (ap present (moved p (i p refl)), λ k. pools p (i p refl))
+
+-- what is handed over of a string, by what the file says
+module _ (w : Answer (State Part)) (x : State Part) (q : w ≡ gives x) (k : ℕ) (r : Part) (d : k ≡ kind_given w) (g : r ≡ present_or no_part w) where
+  handed_as : (P : ℕ → Part → Type 0) → P (kind_given (gives x)) (present_or no_part (gives x)) → P k r
+  handed_as P y = subst (λ (j : ℕ). P j r) (sym (d ∙ ap kind_given q)) (subst (P (kind_given (gives x))) (sym (g ∙ ap (present_or no_part) q)) y)
 
 module _ {e : Edition} {a : List ℕ} {t : Tables} {b : List ℕ} {u : Tables} (o : BothOpened e a t b u) (p : Place) where
-  pub boolean_stands : (s : BooleanState) (k : ℕ) → p.0 < e.booleans → says_boolean s ≡ asking_boolean e a p → k ≡ boolean_kind s → (k ≡ 0 → ⊥)
-      → state_of k tt ≡ merged_boolean a b p
-  boolean_stands s k h q d n =
-      over_stands k tt (boolean_in a (sizes_of a) p) (boolean_in b (sizes_of b) p)
-      (ap (λ (j : ℕ). state_of j tt) d ∙ boolean_says s _ (said o.first e.booleans p _ _ h q)) n
+  module _ (w : Answer (State Unit)) (h : p.0 < e.booleans) (q : w ≡ asking_boolean e a p) where
+    pub boolean_stands : (kind_given w ≡ 0 → ⊥) → w ≡ gives (merged_boolean a b p)
+    boolean_stands n = stands w _ (boolean_in b (sizes_of b) p) (said o.first e.booleans p _ _ h q) n
 
-  pub boolean_leaves : (s r : BooleanState) (k j : ℕ) → p.0 < e.booleans → says_boolean s ≡ asking_boolean e a p → says_boolean r ≡ asking_boolean e b p
-      → k ≡ boolean_kind s → k ≡ 0 → j ≡ boolean_kind r → state_of j tt ≡ merged_boolean a b p
-  boolean_leaves s r k j h q w d z g =
-      ap (λ (i : ℕ). state_of i tt) g ∙ boolean_says r _ (said o.second e.booleans p _ _ h w)
-      ∙ over_leaves k tt (boolean_in a (sizes_of a) p) (boolean_in b (sizes_of b) p)
-      (ap (λ (i : ℕ). state_of i tt) d ∙ boolean_says s _ (said o.first e.booleans p _ _ h q)) z
+    pub boolean_leaves : (v : Answer (State Unit)) → kind_given w ≡ 0 → v ≡ asking_boolean e b p → v ≡ gives (merged_boolean a b p)
+    boolean_leaves v z s = leaves w v _ _ (said o.first e.booleans p _ _ h q) z (said o.second e.booleans p _ _ h s)
 
-  pub number_stands : (s : NumberState) (k : HandedNumber) → p.0 < e.numbers → says_number s ≡ asking_number e a p → k ≡ handed_number s → (k.kind ≡ 0 → ⊥)
-      → state_of k.kind k.value ≡ merged_number a b p
-  number_stands s k h q d n =
-      over_stands k.kind k.value (number_in a (sizes_of a) p) (number_in b (sizes_of b) p)
-      (ap (λ (j : HandedNumber). state_of j.kind j.value) d ∙ number_says s _ (said o.first e.numbers p _ _ h q)) n
+  module _ (w : Answer (State ℕ)) (h : p.0 < e.numbers) (q : w ≡ asking_number e a p) where
+    pub number_stands : (kind_given w ≡ 0 → ⊥) → w ≡ gives (merged_number a b p)
+    number_stands n = stands w _ (number_in b (sizes_of b) p) (said o.first e.numbers p _ _ h q) n
 
-  pub number_leaves : (s r : NumberState) (k j : HandedNumber) → p.0 < e.numbers → says_number s ≡ asking_number e a p → says_number r ≡ asking_number e b p
-      → k ≡ handed_number s → k.kind ≡ 0 → j ≡ handed_number r → state_of j.kind j.value ≡ merged_number a b p
-  number_leaves s r k j h q w d z g =
-      ap (λ (i : HandedNumber). state_of i.kind i.value) g ∙ number_says r _ (said o.second e.numbers p _ _ h w)
-      ∙ over_leaves k.kind k.value (number_in a (sizes_of a) p) (number_in b (sizes_of b) p)
-      (ap (λ (i : HandedNumber). state_of i.kind i.value) d ∙ number_says s _ (said o.first e.numbers p _ _ h q)) z
+    pub number_leaves : (v : Answer (State ℕ)) → kind_given w ≡ 0 → v ≡ asking_number e b p → v ≡ gives (merged_number a b p)
+    number_leaves v z s = leaves w v _ _ (said o.first e.numbers p _ _ h q) z (said o.second e.numbers p _ _ h s)
 
-  module _ (h : p.0 < e.strings) (s : StringState) (q : says_string s ≡ asking_string e a p) where
+  module _ (h : p.0 < e.strings) (w : Answer (State Part)) (q : w ≡ asking_string e a p) (k : ℕ) (r : Part) (d : k ≡ kind_given w) (g : r ≡ present_or no_part w) where
     -- the first file's string, as it is handed over
-    first_string : (string_of (handed_string s).kind (handed_string s).start (handed_string s).length (a ++ b) ≡ string_in a (sizes_of a) p)
-        × ((handed_string s).kind ≡ 1 → InPools (handed_string s).start (handed_string s).length a b)
+    first_string : (string_of k r.start r.length (a ++ b) ≡ string_in a (sizes_of a) p) × (k ≡ 1 → InPools r.start r.length a b)
     unfolding string_in
     first_string =
-        moved_string a b a (λ n. n) (λ r i. in_first a b r.start r.length i) (λ r i. (rw (length-append a b) (omega arith), λ l. i))
-        s (part_in a (sizes_of a) p) (said o.first e.strings p _ _ h q) (part_in_lem o.first p h)
+        handed_as w (part_in a (sizes_of a) p) (said o.first e.strings p _ _ h q) k r d g
+        (λ j s. (string_of j s.start s.length (a ++ b) ≡ string_in a (sizes_of a) p) × (j ≡ 1 → InPools s.start s.length a b))
+        (moved_string a b a (λ n. n) (λ s i. in_first a b s.start s.length i) (λ s i. (rw (length-append a b) (omega arith), λ l. i))
+        (part_in a (sizes_of a) p) (part_in_lem o.first p h))
 
-    pub string_stands : (k : HandedString) → k ≡ handed_string s → (k.kind ≡ 0 → ⊥) → StringFilled a b p k.kind k.start k.length
-    string_stands k d n =
-        subst (λ (j : HandedString). (j.kind ≡ 0 → ⊥) → StringFilled a b p j.kind j.start j.length) (sym d)
-        (λ m. record { state = over_stands _ _ _ (string_in b (sizes_of b) p) first_string.0 m; lent = first_string.1 }) n
+    pub string_stands : (k ≡ 0 → ⊥) → StringFilled a b p k r.start r.length
+    string_stands n = record { state = over_stands _ _ _ (string_in b (sizes_of b) p) first_string.0 n; lent = first_string.1 }
 
-    -- the second file's string stands behind the first file
-    second_string : (r : StringState) → says_string r ≡ asking_string e b p
-        → (string_of (handed_string r).kind (length a + (handed_string r).start) (handed_string r).length (a ++ b) ≡ string_in b (sizes_of b) p)
-        × ((handed_string r).kind ≡ 1 → InPools (length a + (handed_string r).start) (handed_string r).length a b)
-    unfolding string_in
-    second_string r w =
-        moved_string a b b (λ n. length a + n) (λ z i. ap (take z.length) (drop-append-add a b z.start))
-        (λ z i. (rw (length-append a b) (omega arith), λ l. absurd (let y : ⊥ = omega arith in y)))
-        r (part_in b (sizes_of b) p) (said o.second e.strings p _ _ h w) (part_in_lem o.second p h)
+    module _ (v : Answer (State Part)) (c : v ≡ asking_string e b p) (j : ℕ) (s : Part) (l : j ≡ kind_given v) (m : s ≡ present_or no_part v) where
+      -- the second file's string stands behind the first file
+      second_string : (string_of j (length a + s.start) s.length (a ++ b) ≡ string_in b (sizes_of b) p)
+          × (j ≡ 1 → InPools (length a + s.start) s.length a b)
+      unfolding string_in
+      second_string =
+          handed_as v (part_in b (sizes_of b) p) (said o.second e.strings p _ _ h c) j s l m
+          (λ i z. (string_of i (length a + z.start) z.length (a ++ b) ≡ string_in b (sizes_of b) p) × (i ≡ 1 → InPools (length a + z.start) z.length a b))
+          (moved_string a b b (λ n. length a + n) (λ z i. ap (take z.length) (drop-append-add a b z.start))
+          (λ z i. (rw (length-append a b) (omega arith), λ l. absurd (let y : ⊥ = omega arith in y)))
+          (part_in b (sizes_of b) p) (part_in_lem o.second p h))
 
-    pub string_leaves : (r : StringState) (k j : HandedString) → says_string r ≡ asking_string e b p → k ≡ handed_string s → k.kind ≡ 0 → j ≡ handed_string r
-        → StringFilled a b p j.kind (length a + j.start) j.length
-    string_leaves r k j w d z g =
-        subst (λ (i : HandedString). StringFilled a b p i.kind (length a + i.start) i.length) (sym g)
-        (record {
-          state = (second_string r w).0 ∙ over_leaves _ _ _ (string_in b (sizes_of b) p) first_string.0 (ap (λ (i : HandedString). i.kind) (sym d) ∙ z);
-          lent = (second_string r w).1;
-        })
+      pub string_leaves : k ≡ 0 → StringFilled a b p j (length a + s.start) s.length
+      string_leaves z =
+          record { state = second_string.0 ∙ over_leaves _ _ _ (string_in b (sizes_of b) p) first_string.0 z; lent = second_string.1 }
 
 -- ---- the turns of the loops that fill
 

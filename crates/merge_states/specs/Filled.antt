@@ -1,53 +1,27 @@
 -- What a merge hands to the writer: the state of each place, the first file's over the second's. Strings are parts of
 -- the first file and the second behind it.
 -- Assumes nothing.
-use Rattle.std.specs.Prelude.{◌≡◌, List, ◌++◌, ℕ, ◌≤◌, ◌<◌, ◌^◌, length, get_or}
+use Rattle.std.specs.Prelude.{Option, Some, None, ◌≡◌, List, ◌++◌, ℕ, ◌≤◌, ◌<◌, ◌^◌, length, get_or}
 use Rattle.edition.specs.declared.Edition.{Edition}
 use Rattle.edition.specs.declared.Place.{Place}
 use Rattle.edition.specs.Edition.{place}
 use Rattle.entry.specs.declared.Tables.{Tables}
-use Rattle.entry.specs.declared.BooleanState.{BooleanState}
-use Rattle.entry.specs.declared.BooleanState.TheVariants as B
-use Rattle.entry.specs.declared.NumberState.{NumberState}
-use Rattle.entry.specs.declared.NumberState.TheVariants as N
-use Rattle.entry.specs.declared.StringState.{StringState}
-use Rattle.entry.specs.declared.StringState.TheVariants as S
 use Rattle.entry.specs.Limits.{file_most}
 use Rattle.entry.specs.Layout.{size_of}
 use Rattle.entry.specs.Writing.{Handed, state_of, string_table}
 use Rattle.entry.specs.Merging.{merged_boolean, merged_number, merged_string, merged}
 use Rattle.put.specs.Table.{string_of, total, InPools, AllInPools}
 use Rattle.opened_file.specs.Opened.{OpenedAs}
+use Rattle.merge_states.specs.declared.Both.{Both}
 use Rattle.write_laws.specs.File.{Given, sizes_handed}
-use Rattle.merge_states.specs.declared.HandedNumber.{HandedNumber}
-use Rattle.merge_states.specs.declared.HandedString.{HandedString}
-use Rattle.merge_states.specs.declared.TableSize.{TableSize}
-use Rattle.merge_states.specs.declared.TableSize.TheVariants as T
 
 -- both files are opened in the edition
 pub record BothOpened (e : Edition) (a : List ℕ) (t : Tables) (b : List ℕ) (u : Tables) : Type 0 where
   pub first : OpenedAs e a t
   pub second : OpenedAs e b u
 
--- ---- states by kinds: 0 absent, 1 present, 2 cancelled
-
-abbrev pub boolean_kind : BooleanState → ℕ
-boolean_kind B.Absent = 0
-boolean_kind B.Cancelled = 2
-boolean_kind B.Present = 1
-boolean_kind B.Refused = 0
-
-abbrev pub handed_number : NumberState → HandedNumber
-handed_number N.Absent = record { kind = 0; value = 0 }
-handed_number N.Cancelled = record { kind = 2; value = 0 }
-handed_number (N.Present n) = record { kind = 1; value = n }
-handed_number N.Refused = record { kind = 0; value = 0 }
-
-abbrev pub handed_string : StringState → HandedString
-handed_string S.Absent = record { kind = 0; start = 0; length = 0 }
-handed_string S.Cancelled = record { kind = 2; start = 0; length = 0 }
-handed_string (S.Present p) = record { kind = 1; start = p.start; length = p.length }
-handed_string S.Refused = record { kind = 0; start = 0; length = 0 }
+abbrev pub AreOpened : Both → Type 0
+AreOpened s = BothOpened s.edition s.first.now s.t s.second.now s.u
 
 -- ---- the first n places of a list
 
@@ -80,9 +54,9 @@ pub record Measured (e : Edition) (a b kinds starts lengths : List ℕ) (table :
   pub most : table ≤ file_most
 
 -- what filling the strings answers: where their table alone is too large, the strings behind are not filled
-abbrev pub StringsMeasured : Edition → (a b kinds starts lengths : List ℕ) → TableSize → Type 0
-StringsMeasured e a b kinds starts lengths (T.Bytes n) = Measured e a b kinds starts lengths n
-StringsMeasured e a b kinds starts lengths T.TooLarge = file_most < merged_table e a b
+abbrev pub StringsMeasured : Edition → (a b kinds starts lengths : List ℕ) → Option ℕ → Type 0
+StringsMeasured e a b kinds starts lengths (Some n) = Measured e a b kinds starts lengths n
+StringsMeasured e a b kinds starts lengths None = file_most < merged_table e a b
 
 -- as many strings as the edition counts are given
 pub record StringsGiven (e : Edition) (kinds starts lengths : List ℕ) : Type 0 where

@@ -1,6 +1,7 @@
 -- What editions mean by a name: what the second means by it, if they know the place; a larger edition means by it
 -- what a smaller one means by it.
 -- Assumes nothing.
+use Rattle.std.specs.Prelude.{Option, Some, None}
 use mathlib.Core.Path.{◌≡◌, refl, sym, ap, ◌∙◌}
 use mathlib.Core.Bool.{Bool, true, false, not}
 use mathlib.Core.List.{List, []}
@@ -119,21 +120,21 @@ module _ (e : Edition) (n : List ℕ) where
   abbrev in_strings : Bool
   in_strings = is_there (take e.strings string_names) n
 
-  is_boolean : in_booleans ≡ true → looking_up e n ≡ F.Boolean (place (place_in (take e.booleans boolean_names) n))
+  is_boolean : in_booleans ≡ true → looking_up e n ≡ Some (F.Boolean (place (place_in (take e.booleans boolean_names) n)))
   unfolding looking_up
   is_boolean b = rw b
 
   is_number : in_booleans ≡ false → in_numbers ≡ true
-      → looking_up e n ≡ F.Number (place (place_in (take e.numbers number_names) n))
+      → looking_up e n ≡ Some (F.Number (place (place_in (take e.numbers number_names) n)))
   unfolding looking_up
   is_number b m = rw (b, m)
 
   is_string : in_booleans ≡ false → in_numbers ≡ false → in_strings ≡ true
-      → looking_up e n ≡ F.String (place (place_in (take e.strings string_names) n))
+      → looking_up e n ≡ Some (F.String (place (place_in (take e.strings string_names) n)))
   unfolding looking_up
   is_string b m s = rw (b, m, s)
 
-  is_unknown : in_booleans ≡ false → in_numbers ≡ false → in_strings ≡ false → looking_up e n ≡ F.Unknown
+  is_unknown : in_booleans ≡ false → in_numbers ≡ false → in_strings ≡ false → looking_up e n ≡ None
   unfolding looking_up
   is_unknown b m s = rw (b, m, s)
 
@@ -198,7 +199,7 @@ module _ (e : Edition) (n : List ℕ) where
       (below_or p e.booleans
       (λ l. rw (lt-ltb p e.booleans l)
       (is_boolean e n (there_if boolean_names booleans_named e.booleans booleans_length n b l)
-      ∙ ap (λ (i : ℕ). F.Boolean (place i)) (there_same boolean_names booleans_named n b e.booleans l)))
+      ∙ ap (λ (i : ℕ). Some (F.Boolean (place i))) (there_same boolean_names booleans_named n b e.booleans l)))
       (λ l. rw (le-ltb p e.booleans l)
       (is_unknown e n (there_not boolean_names booleans_named e.booleans booleans_length n (λ h. l))
       (is_false (in_numbers e n) (λ h. true_false (sym b ∙ boolean_or_number booleans_named e.numbers n h)))
@@ -212,7 +213,7 @@ module _ (e : Edition) (n : List ℕ) where
       (below_or p e.numbers
       (λ l. rw (lt-ltb p e.numbers l)
       (is_number e n (no_boolean b) (there_if number_names numbers_named e.numbers numbers_length n m l)
-      ∙ ap (λ (i : ℕ). F.Number (place i)) (there_same number_names numbers_named n m e.numbers l)))
+      ∙ ap (λ (i : ℕ). Some (F.Number (place i))) (there_same number_names numbers_named n m e.numbers l)))
       (λ l. rw (le-ltb p e.numbers l)
       (is_unknown e n (no_boolean b)
       (there_not number_names numbers_named e.numbers numbers_length n (λ h. l))
@@ -227,7 +228,7 @@ module _ (e : Edition) (n : List ℕ) where
       (below_or p e.strings
       (λ l. rw (lt-ltb p e.strings l)
       (is_string e n (no_boolean b) (no_number m) (there_if string_names strings_named e.strings strings_length n s l)
-      ∙ ap (λ (i : ℕ). F.String (place i)) (there_same string_names strings_named n s e.strings l)))
+      ∙ ap (λ (i : ℕ). Some (F.String (place i))) (there_same string_names strings_named n s e.strings l)))
       (λ l. rw (le-ltb p e.strings l)
       (is_unknown e n (no_boolean b) (no_number m)
       (there_not string_names strings_named e.strings strings_length n (λ h. l)))))
@@ -255,31 +256,31 @@ module _ (e : Edition) (n : List ℕ) where
       by_boolean false b = by_number b (in_numbers all n) refl
 
 -- what is found by all names, and what the edition knows of it
-pub found_means : (e : Edition) (n : List ℕ) (f g : Found) → f ≡ looking_up second_edition n → g ≡ known_in e f
+pub found_means : (e : Edition) (n : List ℕ) (f g : Option Found) → f ≡ looking_up second_edition n → g ≡ known_in e f
     → looking_up e n ≡ g
 found_means e n f g q r = known_means e n ∙ ap (known_in e) (sym q) ∙ sym r
 
 -- ---- a larger edition
 
 -- a place that an edition knows, a larger one knows; f is what is found there
-known_more : (n m : ℕ) (p : Place) (f : Found) → n ≤ m
-    → ((when knows n p then f else F.Unknown) ≡ F.Unknown)
-    ⊎ ((when knows m p then f else F.Unknown) ≡ (when knows n p then f else F.Unknown))
+known_more : (n m : ℕ) (p : Place) (f : Option Found) → n ≤ m
+    → ((when knows n p then f else None) ≡ None)
+    ⊎ ((when knows m p then f else None) ≡ (when knows n p then f else None))
 known_more n m p f l =
     below_or p.0 n
     (λ k. inr (rw (lt-ltb p.0 n k, lt-ltb p.0 m (omega arith))))
     (λ k. inl (rw (le-ltb p.0 n k)))
 
-larger_known : (e E : Edition) → NoMore e E → (f : Found) → (known_in e f ≡ F.Unknown) ⊎ (known_in E f ≡ known_in e f)
+larger_known : (e E : Edition) → NoMore e E → (f : Option Found) → (known_in e f ≡ None) ⊎ (known_in E f ≡ known_in e f)
 unfolding known_in
-larger_known e E m (F.Boolean p) = known_more e.booleans E.booleans p (F.Boolean p) m.booleans
-larger_known e E m (F.Number p) = known_more e.numbers E.numbers p (F.Number p) m.numbers
-larger_known e E m (F.String p) = known_more e.strings E.strings p (F.String p) m.strings
-larger_known e E m F.Unknown = inl refl
+larger_known e E m (Some (F.Boolean p)) = known_more e.booleans E.booleans p (Some (F.Boolean p)) m.booleans
+larger_known e E m (Some (F.Number p)) = known_more e.numbers E.numbers p (Some (F.Number p)) m.numbers
+larger_known e E m (Some (F.String p)) = known_more e.strings E.strings p (Some (F.String p)) m.strings
+larger_known e E m None = inl refl
 
 -- the smaller edition doesn't know the name, or both mean the same by it
 pub larger_means : (e E : Edition) → NoMore e E → (n : List ℕ)
-    → (looking_up e n ≡ F.Unknown) ⊎ (looking_up E n ≡ looking_up e n)
+    → (looking_up e n ≡ None) ⊎ (looking_up E n ≡ looking_up e n)
 larger_means e E m n =
     elim (larger_known e E m (looking_up second_edition n)) [
       | inl u ↦ inl (known_means e n ∙ u)

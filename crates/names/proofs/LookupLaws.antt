@@ -1,5 +1,6 @@
 -- A name's place in its list is the place of its number in the table.
 -- Assumes nothing.
+use Rattle.std.specs.Prelude.{Option, Some, None}
 use mathlib.Core.Path.{◌≡◌, refl, sym, ap, ◌∙◌}
 use mathlib.Core.Bool.{Bool, true, false, ◌&&◌, not}
 use mathlib.Core.List.{List, [], ◌∷◌, ◌++◌}
@@ -266,21 +267,21 @@ module _ (e : Edition) (n : List ℕ) (b : Bytes n) (k : ℕ) (t : TablePlace n 
   no_string : (strings_from ≤ k → k < all_named → e.strings ≤ k - strings_from) → is_there (take e.strings string_names) n ≡ false
   no_string h = not_in_list string_names strings_from strings_named e.strings strings_length (lit≤ tt) strings_listed n b k t (λ l m. h l (omega arith))
 
-  pub found_boolean : k < booleans_named → k < e.booleans → F.Boolean (place k) ≡ looking_up e n
+  pub found_boolean : k < booleans_named → k < e.booleans → Some (F.Boolean (place k)) ≡ looking_up e n
   unfolding looking_up
   found_boolean l m =
       let z : k - 0 ≡ k = omega arith in
       let p = in_list boolean_names 0 booleans_named e.booleans booleans_length (lit≤ tt) booleans_listed n b k t (omega arith) (omega arith) (omega arith) in
       rw (p.0, p.1, z)
 
-  pub found_number : booleans_named ≤ k → k < strings_from → k - booleans_named < e.numbers → F.Number (place (k - booleans_named)) ≡ looking_up e n
+  pub found_number : booleans_named ≤ k → k < strings_from → k - booleans_named < e.numbers → Some (F.Number (place (k - booleans_named))) ≡ looking_up e n
   unfolding looking_up
   found_number l m o =
       let p = in_list number_names booleans_named numbers_named e.numbers numbers_length (lit≤ tt) numbers_listed n b k t l (omega arith) o in
       let q = no_boolean (λ h. absurd (let y : ⊥ = omega arith in y)) in
       rw (q, p.0, p.1)
 
-  pub found_string : strings_from ≤ k → k < all_named → k - strings_from < e.strings → F.String (place (k - strings_from)) ≡ looking_up e n
+  pub found_string : strings_from ≤ k → k < all_named → k - strings_from < e.strings → Some (F.String (place (k - strings_from))) ≡ looking_up e n
   unfolding looking_up
   found_string l m o =
       let p = in_list string_names strings_from strings_named e.strings strings_length (lit≤ tt) strings_listed n b k t l (omega arith) o in
@@ -289,7 +290,7 @@ module _ (e : Edition) (n : List ℕ) (b : Bytes n) (k : ℕ) (t : TablePlace n 
       rw (q, r, p.0, p.1)
 
   pub found_none : (k < booleans_named → e.booleans ≤ k) → (booleans_named ≤ k → k < strings_from → e.numbers ≤ k - booleans_named) → (strings_from ≤ k → k < all_named → e.strings ≤ k - strings_from)
-      → F.Unknown ≡ looking_up e n
+      → None ≡ looking_up e n
   unfolding looking_up
   found_none f g h =
       let p = no_boolean f in
@@ -299,17 +300,17 @@ module _ (e : Edition) (n : List ℕ) (b : Bytes n) (k : ℕ) (t : TablePlace n 
 
 -- ---- the edition knows the place of a name that it finds
 
-abbrev pub FoundIn : Edition → Found → Type 0
-FoundIn e (F.Boolean q) = q.0 < e.booleans
-FoundIn e (F.Number q) = q.0 < e.numbers
-FoundIn e (F.String q) = q.0 < e.strings
-FoundIn e F.Unknown = Unit {0}
+abbrev pub FoundIn : Edition → Option Found → Type 0
+FoundIn e (Some (F.Boolean q)) = q.0 < e.booleans
+FoundIn e (Some (F.Number q)) = q.0 < e.numbers
+FoundIn e (Some (F.String q)) = q.0 < e.strings
+FoundIn e None = Unit {0}
 
 there_below : (c : ℕ) (names : List (List ℕ)) (i : ℕ) → ltb i (length (take c names)) ≡ true → i < c
 there_below c names i h = let l = ltb-true i (length (take c names)) h in let m = length-take c names in omega arith
 
 by_tests : (e : Edition) (x y z : Bool) (i j k : ℕ) → (x ≡ true → i < e.booleans) → (y ≡ true → j < e.numbers) → (z ≡ true → k < e.strings)
-    → FoundIn e (when x then F.Boolean (place i) else when y then F.Number (place j) else when z then F.String (place k) else F.Unknown)
+    → FoundIn e (when x then Some (F.Boolean (place i)) else when y then Some (F.Number (place j)) else when z then Some (F.String (place k)) else None)
 by_tests e true y z i j k f g h = f refl
 by_tests e false true z i j k f g h = g refl
 by_tests e false false true i j k f g h = h refl

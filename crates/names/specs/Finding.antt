@@ -1,6 +1,6 @@
 -- What looking a name up says (document 01: Numbers of refusal, 11: "unknown name, or wrong kind").
 -- Assumes nothing.
-use Rattle.std.specs.Prelude.{[]}
+use Rattle.std.specs.Prelude.{[], Option, Some, None}
 use Rattle.base.specs.Answer.{Answer, refused, gives}
 use Rattle.edition.specs.declared.Kind.{Kind}
 use Rattle.edition.specs.declared.Kind.TheVariants as K
@@ -13,11 +13,11 @@ pub record Capability : Type 0 where
   pub kind : Kind
   pub place : Place
 
-abbrev pub says_found : Found → Answer Capability
-says_found (F.Boolean p) = gives (record { kind = K.Boolean; place = p })
-says_found (F.Number p) = gives (record { kind = K.Number; place = p })
-says_found (F.String p) = gives (record { kind = K.String; place = p })
-says_found F.Unknown = refused 11 []
+abbrev pub says_found : Option Found → Answer Capability
+says_found (Some (F.Boolean p)) = gives (record { kind = K.Boolean; place = p })
+says_found (Some (F.Number p)) = gives (record { kind = K.Number; place = p })
+says_found (Some (F.String p)) = gives (record { kind = K.String; place = p })
+says_found None = refused 11 []
 
 -- where a string is wanted, a name of another kind is 11 too
 abbrev pub string_found : Answer Capability → Answer Place

@@ -1,6 +1,7 @@
 -- The capability of a name (document 01: Three ordered lists).
 -- Assumes nothing.
 use Rattle.std.specs.Prelude.{Bool, true, false, ◌&&◌, not, List, [], ◌∷◌, ℕ, eqb, ltb, length, get_or, take}
+use Rattle.std.specs.Prelude.{Option, Some, None}
 use Rattle.base.specs.If.{when◌then◌else◌}
 use Rattle.base.specs.Scan.{scan}
 use Rattle.edition.specs.declared.Edition.{Edition}
@@ -23,9 +24,12 @@ abbrev pub is_there : List (List ℕ) → List ℕ → Bool
 is_there ns n = ltb (place_in ns n) (length ns)
 
 -- an edition knows the beginning of each list that it counts
-unfoldable pub looking_up : Edition → List ℕ → Found
+unfoldable pub looking_up : Edition → List ℕ → Option Found
 looking_up e n =
-    when is_there (take e.booleans boolean_names) n then F.Boolean (place (place_in (take e.booleans boolean_names) n))
-    else when is_there (take e.numbers number_names) n then F.Number (place (place_in (take e.numbers number_names) n))
-    else when is_there (take e.strings string_names) n then F.String (place (place_in (take e.strings string_names) n))
-    else F.Unknown
+    when is_there (take e.booleans boolean_names) n then
+    Some (F.Boolean (place (place_in (take e.booleans boolean_names) n)))
+    else when is_there (take e.numbers number_names) n then
+    Some (F.Number (place (place_in (take e.numbers number_names) n)))
+    else when is_there (take e.strings string_names) n then
+    Some (F.String (place (place_in (take e.strings string_names) n)))
+    else None

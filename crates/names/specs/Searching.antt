@@ -1,6 +1,6 @@
 -- A name as the code looks for it in its table, and what an edition knows of what is found.
 -- Assumes nothing.
-use Rattle.std.specs.Prelude.{Bool, ◌&&◌, not, List, ℕ, ◌+◌, ◌-◌, eqb, leb, length, get_or}
+use Rattle.std.specs.Prelude.{Bool, ◌&&◌, not, List, ℕ, ◌+◌, ◌-◌, eqb, leb, length, get_or, Option, Some, None}
 use Rattle.base.specs.If.{when◌then◌else◌}
 use Rattle.base.specs.Scan.{scan}
 use Rattle.edition.specs.declared.Edition.{Edition}
@@ -26,8 +26,8 @@ unfoldable pub searching : ℕ → ℕ → ℕ → ℕ
 searching first count w = scan (λ i. not (eqb (get_or packed_names (first + i) 0) w)) 0 count
 
 -- what an edition knows of a capability that is found: nothing, where its place is beyond the edition
-unfoldable pub known_in : Edition → Found → Found
-known_in e (F.Boolean p) = when knows e.booleans p then F.Boolean p else F.Unknown
-known_in e (F.Number p) = when knows e.numbers p then F.Number p else F.Unknown
-known_in e (F.String p) = when knows e.strings p then F.String p else F.Unknown
-known_in e F.Unknown = F.Unknown
+unfoldable pub known_in : Edition → Option Found → Option Found
+known_in e (Some (F.Boolean p)) = when knows e.booleans p then Some (F.Boolean p) else None
+known_in e (Some (F.Number p)) = when knows e.numbers p then Some (F.Number p) else None
+known_in e (Some (F.String p)) = when knows e.strings p then Some (F.String p) else None
+known_in e None = None

@@ -250,23 +250,12 @@ const NAMES: [u64; ALL] = [
     1852599666, // rmln
 ];
 
-// A capability's name.
-#[derive(Clone, Copy)]
-pub enum Name {
-    // the number whose bytes, low byte first, are the name's
-    Packed(u64),
-    // 17: the list has no such place
-    Beyond,
-}
-
-// What a name is looked up as.
+// What a name is looked up as. A name that the edition doesn't know is `None`.
 #[derive(Clone, Copy)]
 pub enum Found {
     Boolean(Place),
     Number(Place),
     String(Place),
-    // the edition knows no such name
-    Unknown,
 }
 
 fn packed_name(k: usize) -> u64
@@ -276,20 +265,20 @@ fn packed_name(k: usize) -> u64
     NAMES[k]
 }
 
-// The name at a place of the list of count names that starts at first among all names.
-fn name_in(first: usize, count: usize, place: Place) -> Name
+// The name at a place of the list of count names that starts at first among all names; none (17) beyond the list.
+fn name_in(first: usize, count: usize, place: Place) -> Option<u64>
     requires { first + count ≤ all_named }
     ensures { says_name result ≡ (when ltb place.0 count then gives (packed (get_or all_names (first + place.0) []))
         else refused 17 []) }
 {
     if count <= place.0 {
-        return Name::Beyond;
+        return None;
     }
-    Name::Packed(packed_name(first + place.0))
+    Some(packed_name(first + place.0))
 }
 
-// The name of the capability at a place of a list.
-pub fn name_of(kind: Kind, place: Place) -> Name
+// The name of the capability at a place of a list, as the number whose bytes, low byte first, are the name's.
+pub fn name_of(kind: Kind, place: Place) -> Option<u64>
     ensures { says_name result ≡ naming kind place }
 {
     match kind {

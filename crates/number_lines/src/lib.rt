@@ -2,17 +2,15 @@
 // line is the one of specs/Numbers.antt. Assumed: nothing.
 #![tactic(auto)]
 
-ghost use Rattle.std.specs.Prelude.{◌≡◌, ◌∷◌, ◌++◌, ◌≤◌, length};
-ghost use Rattle.entry.specs.Asking.{opening};
-ghost use Rattle.entry.specs.Says.{says_opened};
+ghost use Rattle.std.specs.Prelude.{◌∷◌, ◌++◌, ◌≤◌, length};
 ghost use Rattle.shown.specs.Puts.{Puts, Holds};
 ghost use Rattle.show_names.specs.Line.{line_end, line_room};
 ghost use Rattle.show_names.specs.Naming.{decimal, name_of};
 ghost use Rattle.number_lines.specs.Numbers.{number_line};
 
-use edition::{Edition, Kind, Place};
-use entry::{NumberState, Opened};
-use show_names::{put_named, put_number};
+use edition::{Kind, Place};
+use entry::State;
+use show_names::{OpenFile, put_named, put_number};
 
 // Puts the line of a number's value.
 fn put_value(out: &mut [u8], place: Place, n: u32) -> usize
@@ -25,20 +23,16 @@ fn put_value(out: &mut [u8], place: Place, n: u32) -> usize
 }
 
 // The line of the number at a place.
-pub fn number_line(
-    file: &[u8],
-    edition: Edition,
-    opened: Opened,
-    place: Place,
-    out: &mut [u8],
-) -> usize
-    requires { (line_room file.now ≤ length out.old) × (says_opened opened ≡ opening edition file.now) }
-    ensures { Holds result out.new (number_line edition file.now place) }
+pub fn number_line(opened: OpenFile, place: Place, out: &mut [u8]) -> usize
+    requires { line_room opened.file.now ≤ length out.old }
+    ensures { Holds result out.new (number_line opened.entry.edition opened.entry.file.now place) }
 {
-    match opened_file::number_if_opened(file, edition, opened, place) {
-        NumberState::Present(n) => put_value(out, place, n),
-        NumberState::Cancelled => put_named(out, Kind::Number, place, b"@\n"),
-        NumberState::Absent => 0,
-        NumberState::Refused => 0,
+    let file = opened.file;
+    let tables = opened.answer.tables;
+    match opened_file::number_opened(file, opened.edition, tables, place) {
+        Some(State::Present(n)) => put_value(out, place, n),
+        Some(State::Cancelled) => put_named(out, Kind::Number, place, b"@\n"),
+        Some(State::Absent) => 0,
+        None => 0,
     }
 }

@@ -1,11 +1,9 @@
 -- The number that a word is: decimal digits, after a minus where it is negative, whose value 32 bits with a sign hold.
 -- Assumes nothing.
 use Rattle.std.specs.Prelude.{Bool, true, false, ◌&&◌, not, List, [], ◌∷◌, ℕ, ◌+◌, ◌-◌, ◌*◌, eqb, leb, ℤ, pos, neg_ℤ}
-use Rattle.std.specs.Prelude.{length, get_or, drop}
+use Rattle.std.specs.Prelude.{length, get_or, drop, Option, Some, None}
 use Rattle.base.specs.If.{when◌then◌else◌}
 use Rattle.expansion.specs.Items.{is_digit, decimal}
-use Rattle.number_words.specs.declared.Parsed.{Parsed}
-use Rattle.number_words.specs.declared.Parsed.TheVariants.{Value, Wrong}
 
 unfoldable pub are_digits : List ℕ → Bool
 are_digits [] = true
@@ -25,15 +23,15 @@ signed true m = neg_ℤ (pos m)
 signed false m = pos m
 
 -- the number of a magnitude, after a minus or not
-unfoldable pub signed_of : Bool → ℕ → Parsed
-signed_of minus m = when leb m (magnitude_most minus) then Value (signed minus m) else Wrong
+unfoldable pub signed_of : Bool → ℕ → Option ℤ
+signed_of minus m = when leb m (magnitude_most minus) then Some (signed minus m) else None
 
 -- the number of digits, after a minus or not
-unfoldable pub numeral_of : Bool → List ℕ → Parsed
-numeral_of minus s = when is_numeral s then signed_of minus (decimal 0 s) else Wrong
+unfoldable pub numeral_of : Bool → List ℕ → Option ℤ
+numeral_of minus s = when is_numeral s then signed_of minus (decimal 0 s) else None
 
 -- 45 is the minus
-unfoldable pub value_of : List ℕ → Parsed
+unfoldable pub value_of : List ℕ → Option ℤ
 value_of word = when eqb (get_or word 0 0) 45 then numeral_of true (drop 1 word) else numeral_of false word
 
 -- ---- digits alone, as the code reads them
@@ -45,14 +43,15 @@ large_magnitude = 2147483649
 abbrev pub limited : ℕ → ℕ
 limited m = when leb m (magnitude_most true) then m else large_magnitude
 
--- stands for the magnitude of what isn't digits
-abbrev pub no_magnitude : ℕ
-no_magnitude = 4294967296
-
-unfoldable pub with_digit : ℕ → ℕ → ℕ
+-- none where the byte is no digit, or the number no magnitude
+unfoldable pub with_digit : ℕ → ℕ → Option ℕ
 with_digit n c =
-    when is_digit c then (when leb n large_magnitude then limited (n * 10 + (c - 48)) else no_magnitude)
-    else no_magnitude
+    when is_digit c then (when leb n large_magnitude then Some (limited (n * 10 + (c - 48))) else None)
+    else None
 
-unfoldable pub magnitude_of : List ℕ → ℕ
-magnitude_of s = when are_digits s then limited (decimal 0 s) else no_magnitude
+unfoldable pub magnitude_of : List ℕ → Option ℕ
+magnitude_of s = when are_digits s then Some (limited (decimal 0 s)) else None
+
+-- that of one or more digits
+unfoldable pub numeral_in : List ℕ → Option ℕ
+numeral_in s = when is_numeral s then Some (limited (decimal 0 s)) else None

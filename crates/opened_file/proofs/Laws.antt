@@ -8,6 +8,8 @@ use native.Mathlib.Omega.{arith}
 use lib.Dec.{ltb}
 use lib.ListN.{length, get_or}
 use borrow.Author.Tests.{lt-ltb, le-ltb, ltb-true, eq-eqb, ne_eqb}
+use Rattle.std.specs.Prelude.{Some, None, Result, Ok, Err}
+use Rattle.std.specs.Result.{result_ok}
 use Rattle.base.specs.If.{when◌then◌else◌}
 use Rattle.base.proofs.IfLaws.{true_false, and_right}
 use Rattle.base.proofs.ScanLaws.{scan_ge}
@@ -25,7 +27,10 @@ use Rattle.entry.specs.State.{State, absent, cancelled, present, map_state, abse
 use Rattle.base.specs.Answer.{Answer, refused, gives, map_answer, is_given}
 use Rattle.entry.specs.Layout.{sizes_of, strings_at, table_at, size_of, tables_of}
 use Rattle.entry.specs.Reading.{offset, ok_offset, reading, names_part, boolean_in, slot_in, number_in, offset_in, content_at, part_in}
-use Rattle.entry.specs.Asking.{Opening, opening_of, opening, asking, asking_names, asking_boolean, asking_number, asking_string}
+use Rattle.entry.specs.declared.FileRefusal.{FileRefusal}
+use Rattle.entry.specs.declared.Opening.{Opening}
+use Rattle.entry.specs.Asking.{opening_of, opening, asking, asking_names, asking_boolean, asking_number, asking_string}
+use Rattle.entry.specs.Says.{says_file}
 use Rattle.entry_laws.specs.Slots.{Passes, slot_in_lem}
 use Rattle.entry_laws.specs.Accepted.{Accepted, test_passed, accepted_facts, reading_accepted, counts_names_least, offset_fits}
 use Rattle.entry_laws.specs.Asked.{asking_gives}
@@ -55,6 +60,23 @@ module _ {A : Type 0} (e : Edition) (f : List ℕ) (known : Bool) (x : A) where
       by_tests true true p = (refl, cc)
       by_tests true false p = true_false (ap is_given p)
       by_tests false k p = true_false (ap is_given p)
+
+-- ---- by the answer of opening
+
+module _ (e : Edition) (f : List ℕ) (r : Result Opening FileRefusal) (q : says_file r ≡ opening e f) where
+  pub opened_ok : (o : Opening) → Some o ≡ result_ok r → OpenedAs e f o.tables
+  opened_ok o s = by_cases r q s
+    where
+      by_cases : (t : Result Opening FileRefusal) → says_file t ≡ opening e f → Some o ≡ result_ok t → OpenedAs e f o.tables
+      by_cases (Ok x) p k = let m : o ≡ x = cc in record { beyond = o.beyond; given = ap gives m ∙ p }
+      by_cases (Err y) p k = absurd (cc)
+
+  pub opened_err : {A : Type 0} (known : Bool) (x : A) → None ≡ result_ok r → refused 17 [] ≡ asking e f known x
+  opened_err known x s = by_cases r q s
+    where
+      by_cases : (t : Result Opening FileRefusal) → says_file t ≡ opening e f → None ≡ result_ok t → refused 17 [] ≡ asking e f known x
+      by_cases (Ok y) p k = absurd (cc)
+      by_cases (Err y) p k = asking_unopened e f known x _ _ p
 
 -- ---- an opened file
 

@@ -11,30 +11,15 @@ ghost use Rattle.word.specs.Nul.{nul_from};
 ghost use Rattle.entry.specs.Layout.{sizes_of};
 ghost use Rattle.entry.specs.Reading.{slot_in, offset_in, content_at};
 ghost use Rattle.entry.specs.Asking.{opening, asking_names, asking_boolean, asking_number, asking_string};
-ghost use Rattle.entry.specs.Says.{says_opened, says_boolean, says_number, says_string};
-ghost use Rattle.opened_file.specs.Opened.{OpenedAs, says_slot, CodeFits, says_offset};
+ghost use Rattle.entry.specs.Says.{says_file, state_meant, says_state};
+ghost use Rattle.opened_file.specs.Opened.{OpenedAs, CodeFits};
+ghost use Rattle.opened_file.specs.Kinds.{kind_given, present_or};
 
 use edition::{Edition, Place};
 use entry::{
-    ABSENT_MARK, BooleanState, CANCELLED_BYTE, CANCELLED_MARK, HEADER_SIZE, NumberState, Offset,
-    Opened, Part, StringState, Tables,
+    ABSENT, ABSENT_MARK, CANCELLED, CANCELLED_BYTE, CANCELLED_MARK, FileRefusal, HEADER_SIZE,
+    Offset, Opening, PRESENT, Part, State, Tables,
 };
-
-// What a slot says.
-#[derive(Clone, Copy)]
-pub enum Slot {
-    Absent,
-    Cancelled,
-    Code(usize),
-}
-
-// What a string's slot says.
-#[derive(Clone, Copy)]
-pub enum OffsetSlot {
-    Absent,
-    Cancelled,
-    At(Offset),
-}
 
 // The names without their NUL.
 pub fn names_opened(file: &[u8], edition: Edition, t: Tables) -> Part
@@ -48,72 +33,73 @@ pub fn names_opened(file: &[u8], edition: Edition, t: Tables) -> Part
 }
 
 // What a boolean's byte says.
-fn boolean_of(c: u8) -> BooleanState
-    ensures { says_boolean result ≡ gives (boolean_of c) }
+fn boolean_of(c: u8) -> State<()>
+    ensures { state_meant result ≡ boolean_of c }
 {
     if c == 0 {
-        return BooleanState::Absent;
+        return State::Absent;
     }
     if c == CANCELLED_BYTE {
-        return BooleanState::Cancelled;
+        return State::Cancelled;
     }
-    BooleanState::Present
+    State::Present(())
 }
 
-pub fn boolean_opened(file: &[u8], edition: Edition, t: Tables, place: Place) -> BooleanState
+// One for each list and no generic one: the three differ in the table, in its slots and in what a slot means.
+pub fn boolean_opened(file: &[u8], edition: Edition, t: Tables, place: Place) -> Option<State<()>>
     requires { OpenedAs edition file.now t }
-    ensures { says_boolean result ≡ asking_boolean edition file.now place }
+    ensures { says_state result ≡ asking_boolean edition file.now place }
 {
     if edition.booleans <= place.0 {
-        return BooleanState::Refused;
+        return None;
     }
     if t.booleans <= place.0 {
-        return BooleanState::Absent;
+        return Some(State::Absent);
     }
-    boolean_of(file[t.booleans_at + place.0])
+    Some(boolean_of(file[t.booleans_at + place.0]))
 }
 
 // The slot at a place of a table of n slots from at on; absent past the table.
-fn slot_at(file: &[u8], at: usize, n: usize, place: Place) -> Slot
+fn slot_at(file: &[u8], at: usize, n: usize, place: Place) -> State<usize>
     requires { at + short_width * n ≤ length file.now }
-    ensures { (says_slot result ≡ slot_in short_width file.now at n place) × CodeFits result }
+    ensures { (state_meant result ≡ slot_in short_width file.now at n place) × CodeFits result }
 {
     if n <= place.0 {
-        return Slot::Absent;
+        return State::Absent;
     }
     let c = word::short_at(file, at + 2 * place.0);
     if c == ABSENT_MARK {
-        return Slot::Absent;
+        return State::Absent;
     }
     if c == CANCELLED_MARK {
-        return Slot::Cancelled;
+        return State::Cancelled;
     }
-    Slot::Code(c)
+    State::Present(c)
 }
 
-pub fn number_opened(file: &[u8], edition: Edition, t: Tables, place: Place) -> NumberState
+pub fn number_opened(file: &[u8], edition: Edition, t: Tables, place: Place) -> Option<State<u32>>
     requires { OpenedAs edition file.now t }
-    ensures { says_number result ≡ asking_number edition file.now place }
+    ensures { says_state result ≡ asking_number edition file.now place }
 {
     if edition.numbers <= place.0 {
-        return NumberState::Refused;
+        return None;
     }
     match slot_at(file, t.numbers_at, t.numbers, place) {
-        Slot::Absent => NumberState::Absent,
-        Slot::Cancelled => NumberState::Cancelled,
-        Slot::Code(c) => NumberState::Present(c as u32),
+        State::Absent => Some(State::Absent),
+        State::Cancelled => Some(State::Cancelled),
+        State::Present(c) => Some(State::Present(c as u32)),
     }
 }
 
 // The slot of the string at a place: an offset into the string table, or a mark.
-fn offset_at(file: &[u8], edition: Edition, t: Tables, place: Place) -> OffsetSlot
+fn offset_at(file: &[u8], edition: Edition, t: Tables, place: Place) -> State<Offset>
     requires { OpenedAs edition file.now t }
-    ensures { says_offset result ≡ offset_in file.now (sizes_of file.now) place }
+    ensures { state_meant result ≡ offset_in file.now (sizes_of file.now) place }
 {
     match slot_at(file, t.strings_at, t.strings, place) {
-        Slot::Absent => OffsetSlot::Absent,
-        Slot::Cancelled => OffsetSlot::Cancelled,
-        Slot::Code(c) => OffsetSlot::At(Offset(c)),
+        State::Absent => State::Absent,
+        State::Cancelled => State::Cancelled,
+        State::Present(c) => State::Present(Offset(c)),
     }
 }
 
@@ -131,49 +117,79 @@ fn content_at(file: &[u8], edition: Edition, t: Tables, offset: Offset) -> Part
     }
 }
 
-pub fn string_opened(file: &[u8], edition: Edition, t: Tables, place: Place) -> StringState
+pub fn string_opened(file: &[u8], edition: Edition, t: Tables, place: Place) -> Option<State<Part>>
     requires { OpenedAs edition file.now t }
-    ensures { says_string result ≡ asking_string edition file.now place }
+    ensures { says_state result ≡ asking_string edition file.now place }
 {
     if edition.strings <= place.0 {
-        return StringState::Refused;
+        return None;
     }
     match offset_at(file, edition, t, place) {
-        OffsetSlot::Absent => StringState::Absent,
-        OffsetSlot::Cancelled => StringState::Cancelled,
-        OffsetSlot::At(o) => StringState::Present(content_at(file, edition, t, o)),
+        State::Absent => Some(State::Absent),
+        State::Cancelled => Some(State::Cancelled),
+        State::Present(o) => Some(State::Present(content_at(file, edition, t, o))),
     }
 }
 
 // The same by what opening answered.
-pub fn boolean_if_opened(file: &[u8], edition: Edition, o: Opened, place: Place) -> BooleanState
-    requires { says_opened o ≡ opening edition file.now }
-    ensures { says_boolean result ≡ asking_boolean edition file.now place }
+pub fn boolean_if_opened(
+    file: &[u8],
+    edition: Edition,
+    o: Result<Opening, FileRefusal>,
+    place: Place,
+) -> Option<State<()>>
+    requires { says_file o ≡ opening edition file.now }
+    ensures { says_state result ≡ asking_boolean edition file.now place }
 {
-    match o {
-        Opened::Entry(t, _) => boolean_opened(file, edition, t, place),
-        Opened::Refused(_) => BooleanState::Refused,
-    }
+    let opened = o.ok()?;
+    boolean_opened(file, edition, opened.tables, place)
 }
 
 // The same by what opening answered.
-pub fn number_if_opened(file: &[u8], edition: Edition, o: Opened, place: Place) -> NumberState
-    requires { says_opened o ≡ opening edition file.now }
-    ensures { says_number result ≡ asking_number edition file.now place }
+pub fn number_if_opened(
+    file: &[u8],
+    edition: Edition,
+    o: Result<Opening, FileRefusal>,
+    place: Place,
+) -> Option<State<u32>>
+    requires { says_file o ≡ opening edition file.now }
+    ensures { says_state result ≡ asking_number edition file.now place }
 {
-    match o {
-        Opened::Entry(t, _) => number_opened(file, edition, t, place),
-        Opened::Refused(_) => NumberState::Refused,
-    }
+    let opened = o.ok()?;
+    number_opened(file, edition, opened.tables, place)
 }
 
 // The same by what opening answered.
-pub fn string_if_opened(file: &[u8], edition: Edition, o: Opened, place: Place) -> StringState
-    requires { says_opened o ≡ opening edition file.now }
-    ensures { says_string result ≡ asking_string edition file.now place }
+pub fn string_if_opened(
+    file: &[u8],
+    edition: Edition,
+    o: Result<Opening, FileRefusal>,
+    place: Place,
+) -> Option<State<Part>>
+    requires { says_file o ≡ opening edition file.now }
+    ensures { says_state result ≡ asking_string edition file.now place }
 {
-    match o {
-        Opened::Entry(t, _) => string_opened(file, edition, t, place),
-        Opened::Refused(_) => StringState::Refused,
+    let opened = o.ok()?;
+    string_opened(file, edition, opened.tables, place)
+}
+
+// The kind of a state, as the writer takes it. A refused place counts as absent.
+pub fn kind_of<T: Copy>(s: Option<State<T>>) -> u8
+    ensures { result ≡ kind_given (says_state s) }
+{
+    match s {
+        Some(State::Present(_)) => PRESENT,
+        Some(State::Cancelled) => CANCELLED,
+        _ => ABSENT,
+    }
+}
+
+// What is present, or the other where nothing is.
+pub fn present_or<T: Copy>(s: Option<State<T>>, other: T) -> T
+    ensures { result ≡ present_or other (says_state s) }
+{
+    match s {
+        Some(State::Present(x)) => x,
+        _ => other,
     }
 }

@@ -8,48 +8,6 @@ ghost use Rattle.expansion.specs.Machine.{applied, inverted, truth};
 
 use expansion::Operator;
 
-fn bit_and(a: i32, b: i32) -> i32
-    ensures { result ≡ applied (Operator.BitAnd) a b }
-{
-    signed::value_of(signed::bits_of(a) & signed::bits_of(b))
-}
-
-fn bit_or(a: i32, b: i32) -> i32
-    ensures { result ≡ applied (Operator.BitOr) a b }
-{
-    signed::value_of(signed::bits_of(a) | signed::bits_of(b))
-}
-
-fn bit_xor(a: i32, b: i32) -> i32
-    ensures { result ≡ applied (Operator.BitXor) a b }
-{
-    signed::value_of(signed::bits_of(a) ^ signed::bits_of(b))
-}
-
-fn both(a: i32, b: i32) -> i32
-    ensures { result ≡ applied (Operator.And) a b }
-{
-    if a == 0 {
-        return 0;
-    }
-    if b == 0 {
-        return 0;
-    }
-    1
-}
-
-fn either(a: i32, b: i32) -> i32
-    ensures { result ≡ applied (Operator.Or) a b }
-{
-    if a != 0 {
-        return 1;
-    }
-    if b != 0 {
-        return 1;
-    }
-    0
-}
-
 // What an operator gives; a is the left operand.
 pub fn applied(o: Operator, a: i32, b: i32) -> i32
     ensures { result ≡ applied o a b }
@@ -60,14 +18,14 @@ pub fn applied(o: Operator, a: i32, b: i32) -> i32
         Operator::Multiply => signed::wrapping_multiply(a, b),
         Operator::Divide => signed::quotient(a, b),
         Operator::Remainder => signed::remainder_of(a, b),
-        Operator::BitAnd => bit_and(a, b),
-        Operator::BitOr => bit_or(a, b),
-        Operator::BitXor => bit_xor(a, b),
-        Operator::Equal => if a == b { 1 } else { 0 },
-        Operator::Greater => if a > b { 1 } else { 0 },
-        Operator::Less => if a < b { 1 } else { 0 },
-        Operator::And => both(a, b),
-        Operator::Or => either(a, b),
+        Operator::BitAnd => a & b,
+        Operator::BitOr => a | b,
+        Operator::BitXor => a ^ b,
+        Operator::Equal => i32::from(a == b),
+        Operator::Greater => i32::from(a > b),
+        Operator::Less => i32::from(a < b),
+        Operator::And => i32::from(a != 0 && b != 0),
+        Operator::Or => i32::from(a != 0 || b != 0),
     }
 }
 
@@ -75,12 +33,12 @@ pub fn applied(o: Operator, a: i32, b: i32) -> i32
 pub fn negated(v: i32) -> i32
     ensures { result ≡ truth (is_zero v) }
 {
-    if v == 0 { 1 } else { 0 }
+    i32::from(v == 0)
 }
 
 // `%~`
 pub fn inverted(v: i32) -> i32
     ensures { result ≡ inverted v }
 {
-    signed::value_of(4294967295 - signed::bits_of(v))
+    !v
 }

@@ -30,44 +30,31 @@ pub enum WordKind {
 }
 
 // What an option of one letter is that only some commands have.
+#[tactic(auto, unfolding(crate::specs::Words::own_kind))]
 fn own_kind(letter: u8, own: OwnOption) -> WordKind
     ensures { result ≡ own_kind letter own }
 {
     match own {
-        OwnOption::Nothing => WordKind::Unknown,
-        OwnOption::Flag(flag) => {
-            if letter == flag {
-                return WordKind::Flag;
-            }
-            WordKind::Unknown
-        }
-        OwnOption::Name => {
-            if letter == b'n' {
-                return WordKind::Name;
-            }
-            WordKind::Unknown
-        }
+        OwnOption::Flag(flag) if letter == flag => WordKind::Flag,
+        OwnOption::Name if letter == b'n' => WordKind::Name,
+        _ => WordKind::Unknown,
     }
 }
 
 // What a word is, by its bytes.
+#[tactic(auto, unfolding(crate::specs::Words::kind_of))]
 pub fn kind_of(word: &[u8], own: OwnOption) -> WordKind
     ensures { result ≡ kind_of word.now own }
 {
-    if word.len() < 2 {
-        return WordKind::Operand;
-    }
-    if word[0] != b'-' {
+    if word.len() < 2 || word[0] != b'-' {
         return WordKind::Operand;
     }
     if word.len() != 2 {
         return WordKind::Unknown;
     }
-    if word[1] == b'-' {
-        return WordKind::End;
+    match word[1] {
+        b'-' => WordKind::End,
+        b'e' => WordKind::Edition,
+        letter => own_kind(letter, own),
     }
-    if word[1] == b'e' {
-        return WordKind::Edition;
-    }
-    own_kind(word[1], own)
 }

@@ -1,6 +1,6 @@
 -- An expansion contains no NUL, where no text among its arguments does.
 -- Assumes nothing.
-use Rattle.std.specs.Prelude.{◌≡◌, refl, not, List, [], ◌∷◌, ℕ, ◌-◌, leb, ℤ, length}
+use Rattle.std.specs.Prelude.{◌≡◌, refl, not, List, [], ◌∷◌, ℕ, ◌-◌, leb, ℤ, length, Ok, Err}
 use Rattle.base.proofs.IfLaws.{if_both}
 use Rattle.base.proofs.TabulateLaws.{each_all}
 use Rattle.base.specs.Answer.{Answer}
@@ -8,9 +8,7 @@ use Rattle.base.specs.Tabulate.{Each}
 use Rattle.word.specs.Nul.{NoNul}
 use Rattle.expansion.specs.Limits.{string_most}
 use Rattle.expansion.specs.declared.Argument.{Argument}
-use Rattle.expansion.specs.declared.Form.{Form}
-use Rattle.expansion.specs.declared.Form.TheVariants as F
-use Rattle.expansion.specs.Form.{form_of}
+use Rattle.expansion.specs.Form.{Form, form_of}
 use Rattle.expansion.specs.Values.{Value}
 use Rattle.expansion.specs.Machine.{Machine, Outcome, finished, failed, run}
 use Rattle.expansion.specs.Arguments.{lies_in, is_short, each_passes, values_of, numbers_given}
@@ -36,8 +34,8 @@ ended_free (finished m out n) room f =
 
 formed_free : (f : Form) (a : Answer Expanding) → AnswerFree a → AnswerFree (formed f a)
 unfolding formed
-formed_free (F.Wrong i) a h = tt
-formed_free F.Right a h = h
+formed_free (Err i) a h = tt
+formed_free (Ok done) a h = h
 
 expanding_free : (s : List ℕ) (arguments : List Argument) (lent : List ℕ) (lasting : List ℤ) (size at : ℕ)
     → FreeTexts arguments lent → AnswerFree (expanding s arguments lent lasting size at)

@@ -6,6 +6,8 @@ ghost use Rattle.std.specs.Prelude.{◌≡◌, ◌≤◌, min, length};
 ghost use Rattle.positions.specs.Taken.{text_room};
 ghost use Rattle.positions.specs.Position.{line_of, column_of};
 
+use std::fmt;
+
 // Both are counted from 1.
 #[derive(Clone, Copy)]
 pub struct Position {
@@ -13,10 +15,10 @@ pub struct Position {
     pub column: usize,
 }
 
-fn least(a: usize, b: usize) -> usize
-    ensures { result ≡ min a b }
-{
-    if a < b { a } else { b }
+impl fmt::Display for Position {
+    fn fmt<W: fmt::Write>(&self, f: &mut fmt::Formatter<W>) -> fmt::Result {
+        write!(f, "{}:{}", self.line, self.column)
+    }
 }
 
 // The position of a place in a text; a place past its end is taken for its end.
@@ -25,18 +27,15 @@ pub fn position_of(text: &[u8], place: usize) -> Position
     ensures { (result.line ≡ line_of text.now (min place (length text.now)))
         × (result.column ≡ column_of text.now (min place (length text.now))) }
 {
-    let end = least(place, text.len());
     let mut line = 1;
     let mut column = 1;
-    let mut i = 0;
-    while i < end {
-        if text[i] == 10 {
+    for c in &text[..place.min(text.len())] {
+        if *c == b'\n' {
             line += 1;
             column = 1;
         } else {
             column += 1;
         }
-        i += 1;
     }
     Position { line, column }
 }

@@ -3,16 +3,29 @@
 use mathlib.Core.Path.{◌≡◌, refl, sym, ap, ◌∙◌}
 use mathlib.Core.Bool.{Bool, true, false}
 use mathlib.Core.List.{List, [], ◌++◌}
-use Prim.Native.Nat.{ℕ, ◌+◌, ◌≤◌, ◌<◌}
+use Prim.Native.Nat.{ℕ, ◌+◌, ◌-◌, ◌≤◌, ◌<◌}
 use native.Mathlib.Omega.{arith}
 use lib.Dec.{leb}
-use lib.ListN.{length, length-append}
+use lib.ListN.{length, length-append, take, drop, length-drop, replicate, length-replicate}
+use lib.Seq.{length-take-le, drop-drop}
+use borrow.Rule.Slice.PartMut.{put_mid}
 use borrow.Author.Tests.{le-leb, lt-leb, leb-true}
 use Rattle.base.specs.If.{when◌then◌else◌}
 use Rattle.base.proofs.IfLaws.{below_or}
 use Rattle.base.specs.Overwrite.{put_at}
 use Rattle.base.proofs.OverwriteLaws.{length_put, put_nil, put_put}
 use Rattle.print.specs.Emit.{emitted, begun}
+
+-- a part that is filled with one byte
+pub filled : (b p : List ℕ) (at count v : ℕ) → at + count ≤ length b
+    → p ≡ replicate (length (take (at + count - at) (drop at b))) v
+    → put_mid at (at + count - at) b p ≡ put_at b at (replicate count v)
+unfolding put_at
+filled b p at count v h e =
+    let k : at + count - at ≡ count = omega arith in
+    let f : length (take count (drop at b)) ≡ count = length-take-le count (drop at b) (rw (length-drop at b) (omega arith)) in
+    let q : p ≡ replicate count v = rw (k, f) at e in
+    rw (k, q, length-replicate, drop-drop count at b)
 
 pub emitted_fits : (b : List ℕ) (at : ℕ) (xs : List ℕ) → at + length xs ≤ length b → emitted b at xs ≡ put_at b at xs
 unfolding emitted

@@ -3,10 +3,11 @@
 use mathlib.Core.Path.{◌≡◌, refl, sym, ap, ◌∙◌, subst}
 use mathlib.Core.Bool.{Bool, true, false}
 use mathlib.Core.List.{List, [], ◌++◌, append_assoc, append-nil}
-use Prim.Native.Nat.{ℕ, ◌+◌, ◌-◌, ◌^◌, ◌≤◌, ◌<◌}
+use Prim.Native.Nat.{ℕ, ◌+◌, ◌-◌, ◌*◌, ◌^◌, ◌≤◌, ◌<◌}
+use Rattle.std.proofs.Common.{lt_of_le_of_lt, le_of_lt, mul-le-mul_left, mul-lt-mul_of_pos_right, pow_pos, pow-add}
 use native.Mathlib.Omega.{arith}
 use lib.Dec.{T}
-use lib.IntN.{ℤ, pos, negsuc}
+use lib.IntN.{ℤ, pos, negsuc, nat_abs}
 use lib.ListN.{length, replicate, length-append, length-replicate}
 use lib.Signed.{lt_z}
 use mir.Syntax.{w32}
@@ -22,6 +23,12 @@ use Rattle.expansion.specs.Print.{digits, sign, numeral, printed}
 use Rattle.print.specs.declared.Numeral.{Numeral}
 use Rattle.print.specs.Numeral.{minus_sign, front, before, is_plain, bytes_of, NumeralOf}
 use Rattle.expansion_laws.specs.DigitCount.{digits_word}
+
+-- ---- a product of two numbers
+
+pub product_below : (k : ℕ) {a b : ℕ} → a < 2 ^ k → b < 2 ^ k → a * b < 2 ^ (k + k)
+product_below k {a} {b} ha hb =
+    rw (pow-add 2 k k) (lt_of_le_of_lt (mul-le-mul_left a (le_of_lt hb)) (mul-lt-mul_of_pos_right ha (pow_pos k)))
 
 -- ---- what stands before the digits
 
@@ -41,29 +48,11 @@ length_front minus false k = simp (length-append, length-replicate) (omega arith
 
 -- ---- what a value is printed from
 
-pub minus_bits : (v : ℤ) → SFits w32 v → lt_z v (pos 0) ≡ true → 2147483648 ≤ of_z w32 v
-minus_bits (pos n) h t = absurd (let q : n < 0 = ltb-true n 0 t in omega arith)
-minus_bits (negsuc n) h t = let p : n < 2147483648 = h.sfits in omega arith
-
-pub decimal_minus : (v : ℤ) (m : ℕ) → SFits w32 v → lt_z v (pos 0) ≡ true → m ≡ 4294967295 - of_z w32 v + 1
-    → NumeralOf Decimal v (record { minus = true; magnitude = m; radix = 10; letters = 97 })
+pub decimal_is : (v : ℤ) (m : ℕ) (minus : Bool) → lt_z v (pos 0) ≡ minus → m ≡ nat_abs v
+    → NumeralOf Decimal v (record { minus = minus; magnitude = m; radix = 10; letters = 97 })
 unfolding numeral
-decimal_minus (pos n) m h t e = absurd (let q : n < 0 = ltb-true n 0 t in omega arith)
-decimal_minus (negsuc n) m h t e =
-    let p : n < 2147483648 = h.sfits in
-    record {
-      sign_is = refl;
-      digits_are = ap (digits 10 97) (omega arith);
-      radix_least = omega arith;
-      radix_most = omega arith;
-      letters_most = omega arith;
-      decimal_letters = λ d. refl;
-    }
-
-pub decimal_plain : (v : ℤ) (m : ℕ) → lt_z v (pos 0) ≡ false → m ≡ of_z w32 v
-    → NumeralOf Decimal v (record { minus = false; magnitude = m; radix = 10; letters = 97 })
-unfolding numeral
-decimal_plain (pos n) m t e =
+decimal_is (pos n) m true t e = absurd (let q : n < 0 = ltb-true n 0 t in omega arith)
+decimal_is (pos n) m false t e =
     record {
       sign_is = refl;
       digits_are = ap (digits 10 97) (sym e);
@@ -72,7 +61,16 @@ decimal_plain (pos n) m t e =
       letters_most = omega arith;
       decimal_letters = λ d. refl;
     }
-decimal_plain (negsuc n) m t e = absurd (subst T t tt)
+decimal_is (negsuc n) m true t e =
+    record {
+      sign_is = refl;
+      digits_are = ap (digits 10 97) (sym e);
+      radix_least = omega arith;
+      radix_most = omega arith;
+      letters_most = omega arith;
+      decimal_letters = λ d. refl;
+    }
+decimal_is (negsuc n) m false t e = absurd (subst T t tt)
 
 -- the digits of the value mod 2^32
 pub unsigned : (base : Base) (v : ℤ) (r a m : ℕ) → sign base v ≡ [] → numeral base v ≡ digits r a (low32 v) → 2 ≤ r → r ≤ 16 → a ≤ 97 → (r ≡ 10 → a ≡ 97)

@@ -24,25 +24,14 @@ pub struct Numeral {
 fn numeral_of(base: Base, value: i32) -> Numeral
     ensures { NumeralOf base value result }
 {
-    let bits = signed::bits_of(value);
+    let bits = value.cast_unsigned();
     match base {
-        Base::Decimal => {
-            if value < 0 {
-                Numeral {
-                    minus: true,
-                    magnitude: 4294967295 - bits + 1,
-                    radix: 10,
-                    letters: b'a',
-                }
-            } else {
-                Numeral {
-                    minus: false,
-                    magnitude: bits,
-                    radix: 10,
-                    letters: b'a',
-                }
-            }
-        }
+        Base::Decimal => Numeral {
+            minus: value < 0,
+            magnitude: value.unsigned_abs(),
+            radix: 10,
+            letters: b'a',
+        },
         Base::Octal => Numeral {
             minus: false,
             magnitude: bits,
@@ -73,8 +62,9 @@ fn count_digits(n: u32, radix: u32) -> usize
     let factor = radix as u64;
     let mut limit = factor;
     let mut count: usize = 1;
+    // the count is what the loop finds: no range counts it
     while limit <= number {
-        limit = limit * factor;
+        limit *= factor;
         count += 1;
     }
     count
@@ -85,7 +75,7 @@ fn digit_byte(letters: u8, digit: u32) -> u8
     ensures { result ≡ digit_byte letters digit }
 {
     if digit < 10 {
-        48 + digit as u8
+        b'0' + digit as u8
     } else {
         letters + (digit - 10) as u8
     }
@@ -100,10 +90,11 @@ fn put_in_base(out: &mut [u8], end: usize, n: u32, radix: u32, letters: u8)
 {
     let mut at = end;
     let mut left = n;
+    // as many turns as digits are left: no range counts them
     while left >= radix {
         at -= 1;
         out[at] = digit_byte(letters, left % radix);
-        left = left / radix;
+        left /= radix;
     }
     at -= 1;
     out[at] = digit_byte(letters, left);
@@ -112,7 +103,7 @@ fn put_in_base(out: &mut [u8], end: usize, n: u32, radix: u32, letters: u8)
 fn sign_length(minus: bool) -> usize
     ensures { result ≡ length (minus_sign minus) }
 {
-    if minus { 1 } else { 0 }
+    usize::from(minus)
 }
 
 fn put_sign(out: &mut [u8], at: usize, minus: bool)
@@ -129,11 +120,7 @@ fn put_fill(out: &mut [u8], at: usize, byte: u8, count: usize)
     requires { at + count ≤ length out.old }
     ensures { out.new ≡ put_at out.old at (replicate count byte) }
 {
-    let mut i: usize = 0;
-    while i < count {
-        out[at + i] = byte;
-        i += 1;
-    }
+    out[at..at + count].fill(byte);
 }
 
 // What stands before the digits: the sign, with blanks before it or zeros after it.
@@ -158,11 +145,11 @@ fn put_front(out: &mut [u8], at: usize, minus: bool, zero: bool, missing: usize)
 fn missing_of(width: u8, length: usize) -> usize
     ensures { result ≡ width - length }
 {
-    let w = width as usize;
-    if length < w { w - length } else { 0 }
+    usize::from(width).saturating_sub(length)
 }
 
-// Puts what stands before so many digits where they fit behind it, and gives its length in any case.
+// Puts what stands before so many digits where they fit behind it, and gives its length in any case. Fill and width
+// stay apart, as the item has them: a struct would be made only to be taken apart.
 fn put_before(out: &mut [u8], at: usize, minus: bool, zero: bool, width: u8, count: usize) -> usize
     requires { (at ≤ output_most) × (count ≤ 32) }
     ensures { (result ≡ length (before minus zero width count))
@@ -181,10 +168,7 @@ fn put_before(out: &mut [u8], at: usize, minus: bool, zero: bool, width: u8, cou
 fn is_plain(minus: bool, width: u8) -> bool
     ensures { result ≡ is_plain minus width }
 {
-    if minus {
-        return false;
-    }
-    width == 0
+    !minus && width == 0
 }
 
 // What `put_before` does, for decimal digits; at once where nothing stands before them.
@@ -214,7 +198,7 @@ fn put_decimal(out: &mut [u8], at: usize, n: u32) -> usize
         × (out.new ≡ emitted out.old at (decimal_digits n)) }
 {
     if n < 10 {
-        put_byte(out, at, 48 + n as u8);
+        put_byte(out, at, b'0' + n as u8);
         return 1;
     }
     let count = decimals::count(n);

@@ -15,9 +15,5 @@ pub fn put_text(out: &mut [u8], at: usize, texts: &[u8], start: usize, n: usize)
     if out.len() < at + n {
         return;
     }
-    let mut i: usize = 0;
-    while i < n {
-        out[at + i] = texts[start + i];
-        i += 1;
-    }
+    out[at..at + n].copy_from_slice(&texts[start..start + n]);
 }

@@ -12,8 +12,8 @@ ghost use Rattle.put.specs.Table.{booleans_of, numbers_of, slots_of, string_of, 
 ghost use Rattle.put.specs.Table.{InPools, TableFits};
 
 use entry::{
-    ABSENT, ABSENT_MARK, CANCELLED_BYTE, CANCELLED_MARK, MAGIC, NUMBER_WIDTH, OFFSET_WIDTH, Offset,
-    PRESENT, Sizes,
+    ABSENT, ABSENT_MARK, CANCELLED_BYTE, CANCELLED_MARK, MAGIC, NUMBER_WIDTH, Numbers,
+    OFFSET_WIDTH, Offset, PRESENT, Sizes, Strings,
 };
 
 // The bytes of an absent and of a present boolean.
@@ -39,11 +39,8 @@ pub fn put_bytes(b: &mut [u8], at: usize, s: &[u8])
     requires { at + length s.now ≤ length b.old }
     ensures { b.new ≡ put_at b.old at s.now }
 {
-    let mut i = 0;
-    while i < s.len() {
-        b[at + i] = s[i];
-        i += 1;
-    }
+    let end = at + s.len();
+    b[at..end].copy_from_slice(s);
 }
 
 // A run of bytes and a NUL.
@@ -83,10 +80,8 @@ pub fn put_booleans(b: &mut [u8], at: usize, kinds: &[u8], n: usize)
     requires { (at + n ≤ length b.old) × (n ≤ length kinds.now) }
     ensures { b.new ≡ put_at b.old at (map boolean_code (booleans_of kinds.now n)) }
 {
-    let mut i = 0;
-    while i < n {
+    for i in 0..n {
         b[at + i] = boolean_code(kinds[i]);
-        i += 1;
     }
 }
 
@@ -104,16 +99,15 @@ pub fn slot_code(kind: u8, code: usize) -> usize
 }
 
 // The slots of the first n numbers.
-pub fn put_numbers(b: &mut [u8], at: usize, kinds: &[u8], values: &[u32], n: usize)
-    requires { (at + short_width * n ≤ length b.old) × ((n ≤ length kinds.now) × (n ≤ length values.now)) }
+pub fn put_numbers(b: &mut [u8], at: usize, numbers: &Numbers<'_>, n: usize)
+    requires { (at + short_width * n ≤ length b.old)
+        × ((n ≤ length numbers.now.kinds.now) × (n ≤ length numbers.now.values.now)) }
     ensures { b.new ≡ put_at b.old at
-        (words number_width (map number_code (numbers_of kinds.now values.now n))) }
+        (words number_width (map number_code (numbers_of numbers.now.kinds.now numbers.now.values.now n))) }
 {
-    let mut i = 0;
-    while i < n {
-        let code = slot_code(kinds[i], values[i] as usize);
+    for i in 0..n {
+        let code = slot_code(numbers.kinds[i], numbers.values[i] as usize);
         word::put_short(b, at + NUMBER_WIDTH * i, code);
-        i += 1;
     }
 }
 
@@ -144,28 +138,25 @@ pub fn table_size(kinds: &[u8], lengths: &[usize], n: usize) -> usize
     ensures { result ≡ total kinds.now lengths.now n }
 {
     let mut sum = 0;
-    let mut i = 0;
-    while i < n {
+    for i in 0..n {
         sum += bytes_in_table(kinds[i], lengths[i]);
-        i += 1;
     }
     sum
 }
 
 // The slots of the first n strings.
-pub fn put_slots(b: &mut [u8], at: usize, kinds: &[u8], lengths: &[usize], n: usize)
-    requires { (at + short_width * n ≤ length b.old)
-        × ((n ≤ length kinds.now) × ((n ≤ length lengths.now) × (total kinds.now lengths.now n < 2 ^ 64))) }
+pub fn put_slots(b: &mut [u8], at: usize, strings: &Strings<'_>, n: usize)
+    requires { (at + short_width * n ≤ length b.old) × ((n ≤ length strings.now.kinds.now)
+        × ((n ≤ length strings.now.lengths.now)
+        × (total strings.now.kinds.now strings.now.lengths.now n < 2 ^ 64))) }
     ensures { b.new ≡ put_at b.old at
-        (words offset_width (map offset_code (slots_of kinds.now lengths.now n))) }
+        (words offset_width (map offset_code (slots_of strings.now.kinds.now strings.now.lengths.now n))) }
 {
     let mut next = 0;
-    let mut i = 0;
-    while i < n {
-        let kind = kinds[i];
+    for i in 0..n {
+        let kind = strings.kinds[i];
         put_slot(b, at + OFFSET_WIDTH * i, kind, Offset(next));
-        next += bytes_in_table(kind, lengths[i]);
-        i += 1;
+        next += bytes_in_table(kind, strings.lengths[i]);
     }
 }
 
@@ -205,22 +196,28 @@ pub fn put_content(
 pub fn put_table(
     b: &mut [u8],
     at: usize,
-    kinds: &[u8],
-    starts: &[usize],
-    lengths: &[usize],
+    strings: &Strings<'_>,
     first: &[u8],
     second: &[u8],
     n: usize,
 )
-    requires { TableFits b.old at kinds.now starts.now lengths.now first.now second.now n }
+    requires { TableFits b.old at strings.now.kinds.now strings.now.starts.now strings.now.lengths.now
+        first.now second.now n }
     ensures { b.new ≡ put_at b.old at
-        (string_table (strings_of kinds.now starts.now lengths.now
+        (string_table (strings_of strings.now.kinds.now strings.now.starts.now strings.now.lengths.now
         (first.now ++ second.now) n)) }
 {
     let mut p = at;
-    let mut i = 0;
-    while i < n {
-        p = put_content(b, p, kinds[i], starts[i], lengths[i], first, second);
-        i += 1;
+    for i in 0..n {
+        let size = strings.lengths[i];
+        p = put_content(
+            b,
+            p,
+            strings.kinds[i],
+            strings.starts[i],
+            size,
+            first,
+            second,
+        );
     }
 }

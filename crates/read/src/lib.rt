@@ -3,18 +3,18 @@
 // `open` answer every slice of bytes and every edition as `reading` and `opening` of entry/specs say. Assumed: nothing.
 #![tactic(auto)]
 
-ghost use Rattle.std.specs.Prelude.{◌≡◌, ◌+◌, ◌*◌, ◌-◌, ◌<◌, ◌≤◌, length};
+ghost use Rattle.std.specs.Prelude.{◌≡◌, ◌+◌, ◌*◌, ◌<◌, ◌≤◌, length};
 ghost use Rattle.word.specs.Word.{word};
 ghost use Rattle.entry.specs.Layout.{sizes_of, tables_of, beyond_of};
 ghost use Rattle.entry.specs.Reading.{ok_counts, reading};
 ghost use Rattle.entry.specs.Asking.{opening};
-ghost use Rattle.entry.specs.Says.{says_judged, says_opened};
+ghost use Rattle.entry.specs.Says.{says_file};
 ghost use Rattle.file_tables.specs.Framed.{Shorts, Framed};
 
 use edition::Edition;
 use entry::{
-    Beyond, FILE_MOST, FileRefusal, HEADER_SIZE, Judged, MAGIC, NAMES_LEAST, NAMES_MOST,
-    NUMBER_WIDTH, OFFSET_WIDTH, Opened, SHORT_MOST, Sizes, Tables,
+    Beyond, FILE_MOST, FileRefusal, HEADER_SIZE, MAGIC, NAMES_LEAST, NAMES_MOST, NUMBER_WIDTH,
+    OFFSET_WIDTH, Opening, SHORT_MOST, Sizes, Tables,
 };
 
 // The header's sizes.
@@ -36,25 +36,16 @@ pub fn sizes(file: &[u8]) -> Sizes
     }
 }
 
+#[tactic(auto, unfolding(entry::specs::Reading::ok_counts))]
 fn counts_ok(s: Sizes) -> bool
     ensures { result ≡ ok_counts s }
 {
-    if s.names < NAMES_LEAST {
-        return false;
-    }
-    if NAMES_MOST < s.names {
-        return false;
-    }
-    if SHORT_MOST < s.booleans {
-        return false;
-    }
-    if SHORT_MOST < s.numbers {
-        return false;
-    }
-    if SHORT_MOST < s.strings {
-        return false;
-    }
-    s.table <= SHORT_MOST
+    NAMES_LEAST <= s.names
+        && s.names <= NAMES_MOST
+        && s.booleans <= SHORT_MOST
+        && s.numbers <= SHORT_MOST
+        && s.strings <= SHORT_MOST
+        && s.table <= SHORT_MOST
 }
 
 // Where each table of a file of these sizes starts.
@@ -78,66 +69,56 @@ pub fn tables_for(s: Sizes) -> Tables
 }
 
 // Judges the tables of a file whose header has passed.
-fn judge_tables(file: &[u8], s: Sizes, t: Tables) -> Judged
+fn judge_tables(file: &[u8], s: Sizes, t: Tables) -> Result<Sizes, FileRefusal>
     requires { Framed file.now s t }
-    ensures { says_judged result ≡ reading file.now }
+    ensures { says_file result ≡ reading file.now }
 {
     if !file_tables::names_ok(file, s, t) {
-        return Judged::Refused(FileRefusal::Names(file_tables::bad_names(file, s, t)));
+        return Err(FileRefusal::Names(file_tables::bad_names(file, s, t)));
     }
     if !file_tables::booleans_ok(file, s, t) {
-        return Judged::Refused(FileRefusal::Boolean(file_tables::bad_boolean(file, s, t)));
+        return Err(FileRefusal::Boolean(file_tables::bad_boolean(file, s, t)));
     }
     if !file_tables::numbers_ok(file, s, t) {
-        return Judged::Refused(FileRefusal::Number(file_tables::bad_number(file, s, t)));
+        return Err(FileRefusal::Number(file_tables::bad_number(file, s, t)));
     }
     if !file_tables::strings_ok(file, s, t) {
-        return Judged::Refused(FileRefusal::Slot(file_tables::bad_string(file, s, t)));
+        return Err(FileRefusal::Slot(file_tables::bad_string(file, s, t)));
     }
-    Judged::Accepted(s)
+    Ok(s)
 }
 
 // Judges a file: accepted with its header's sizes, or refused. No edition has a part in it.
-pub fn judge(file: &[u8]) -> Judged
-    ensures { says_judged result ≡ reading file.now }
+pub fn judge(file: &[u8]) -> Result<Sizes, FileRefusal>
+    ensures { says_file result ≡ reading file.now }
 {
     if file.len() < HEADER_SIZE {
-        return Judged::Refused(FileRefusal::Length);
+        return Err(FileRefusal::Length);
     }
     if FILE_MOST < file.len() {
-        return Judged::Refused(FileRefusal::Length);
+        return Err(FileRefusal::Length);
     }
     if word::short_at(file, 0) != MAGIC {
-        return Judged::Refused(FileRefusal::Magic);
+        return Err(FileRefusal::Magic);
     }
     let s = sizes(file);
     if !counts_ok(s) {
-        return Judged::Refused(FileRefusal::Counts);
+        return Err(FileRefusal::Counts);
     }
     let t = tables_for(s);
     if file.len() != t.table_at + s.table {
-        return Judged::Refused(FileRefusal::Length);
+        return Err(FileRefusal::Length);
     }
     judge_tables(file, s, t)
-}
-
-// How far n is past k; 0 where it isn't.
-pub fn past(n: usize, k: usize) -> usize
-    ensures { result ≡ n - k }
-{
-    if n < k {
-        return 0;
-    }
-    n - k
 }
 
 // How many slots lie beyond the edition.
 fn beyond(e: Edition, s: Sizes) -> Beyond
     ensures { result ≡ beyond_of e s }
 {
-    let booleans = past(s.booleans, e.booleans);
-    let numbers = past(s.numbers, e.numbers);
-    let strings = past(s.strings, e.strings);
+    let booleans = s.booleans.saturating_sub(e.booleans);
+    let numbers = s.numbers.saturating_sub(e.numbers);
+    let strings = s.strings.saturating_sub(e.strings);
     Beyond {
         booleans,
         numbers,
@@ -146,14 +127,15 @@ fn beyond(e: Edition, s: Sizes) -> Beyond
 }
 
 // Opens a file in an edition: where its tables start and how many slots lie beyond the edition, or the refusal.
-pub fn open(file: &[u8], edition: Edition) -> Opened
-    ensures { says_opened result ≡ opening edition file.now }
+pub fn open(file: &[u8], edition: Edition) -> Result<Opening, FileRefusal>
+    ensures { says_file result ≡ opening edition file.now }
 {
     if !edition::edition_ok(edition) {
-        return Opened::Refused(FileRefusal::Counts);
+        return Err(FileRefusal::Counts);
     }
-    match judge(file) {
-        Judged::Accepted(s) => Opened::Entry(tables_for(s), beyond(edition, s)),
-        Judged::Refused(why) => Opened::Refused(why),
-    }
+    let s = judge(file)?;
+    Ok(Opening {
+        tables: tables_for(s),
+        beyond: beyond(edition, s),
+    })
 }

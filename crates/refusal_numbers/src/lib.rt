@@ -1,117 +1,172 @@
-// Document 01's number of each answer's refusal (Numbers of refusal), 0 where the call is done; and the position that
-// a file's refusal gives. Proved: each is that of the definition which says what the answer means. Assumed: nothing.
+// Document 01's number of each refusal (Numbers of refusal), and the value that the refusal gives with it. Proved: each
+// is that of the definition which says what the refusal means. Assumed: nothing.
 #![tactic(auto)]
 
-ghost use Rattle.std.specs.Prelude.{◌≡◌};
+ghost use Rattle.std.specs.Prelude.{◌≡◌, [], ◌∷◌, List, ℕ, Err, get_or};
 ghost use Rattle.base.specs.Answer.{number_of};
-ghost use Rattle.entry.specs.Says.{file_number, file_position, says_names, says_boolean, says_number, says_string};
-ghost use Rattle.entry.specs.Says.{says_written, says_merged};
-ghost use Rattle.names.specs.Naming.{says_name};
+ghost use Rattle.entry.specs.Says.{file_number, file_values, says_asked, write_number, write_values, refused_merge};
+ghost use Rattle.list_states.specs.Listing.{says_listed};
 ghost use Rattle.names.specs.Finding.{says_found, string_found};
-ghost use Rattle.text.specs.Compiling.{text_number, says_compiled};
-ghost use Rattle.expansion.specs.Expanding.{says_expansion};
+ghost use Rattle.text.specs.Refusals.{text_number};
+ghost use Rattle.text.specs.Compiling.{says_compiled};
+ghost use Rattle.expansion.specs.Expanding.{refused_expansion};
+ghost use Rattle.refusal_numbers.specs.Refusals.{values_of};
 
-use entry::{BooleanState, FileRefusal, Merged, Names, NumberState, StringState, Written};
-use expansion::Expansion;
-use names::{Found, Name};
-use text::{Compiled, TextRefusal};
+use entry::{FileRefusal, MergeRefusal, WriteRefusal};
+use expansion::ExpansionRefusal;
+use list_states::ListRefusal;
+use names::Found;
+use text::{CompileRefusal, TextRefusal};
 
-// A file's refusal, by opening or judging.
-pub fn of_file(why: FileRefusal) -> u8
-    ensures { result ≡ file_number why }
-{
-    match why {
-        FileRefusal::Length => 1,
-        FileRefusal::Magic => 2,
-        FileRefusal::Counts => 3,
-        FileRefusal::Names(_) => 4,
-        FileRefusal::Boolean(_) => 5,
-        FileRefusal::Number(_) => 6,
-        FileRefusal::Slot(_) => 7,
-    }
+// Why a call is refused.
+pub trait Refusal {
+    ghost refusal_number: { Self → ℕ };
+
+    ghost refusal_values: { Self → List ℕ };
+
+    // Document 01's number of the refusal.
+    fn number(self) -> u8
+        ensures { result ≡ refusal_number self };
+
+    // The first value that it gives, a position, a place or a length; 0 where it gives none.
+    fn value(self) -> usize
+        ensures { result ≡ get_or (refusal_values self) 0 0 };
 }
 
-// The position that it gives; 0 where it gives none.
-pub fn position(why: FileRefusal) -> usize
-    ensures { result ≡ file_position why }
-{
-    match why {
-        FileRefusal::Length => 0,
-        FileRefusal::Magic => 0,
-        FileRefusal::Counts => 0,
-        FileRefusal::Names(at) => at,
-        FileRefusal::Boolean(at) => at,
-        FileRefusal::Number(at) => at,
-        FileRefusal::Slot(at) => at,
-    }
-}
-
-pub fn of_names(answer: Names) -> u8
-    ensures { result ≡ number_of (says_names answer) }
+// The number of an answer that is a state, a part of a file or a name, or none.
+pub fn of_asked<T: Copy>(answer: Option<T>) -> u8
+    ensures { result ≡ number_of (says_asked answer) }
 {
     match answer {
-        Names::At(_) => 0,
-        Names::Refused => 17,
+        Some(_) => 0,
+        None => 17,
     }
 }
 
-pub fn of_boolean(answer: BooleanState) -> u8
-    ensures { result ≡ number_of (says_boolean answer) }
+// A name looked up.
+pub fn of_found(answer: Option<Found>) -> u8
+    ensures { result ≡ number_of (says_found answer) }
 {
     match answer {
-        BooleanState::Absent => 0,
-        BooleanState::Cancelled => 0,
-        BooleanState::Present => 0,
-        BooleanState::Refused => 17,
+        Some(Found::Boolean(_)) => 0,
+        Some(Found::Number(_)) => 0,
+        Some(Found::String(_)) => 0,
+        None => 11,
     }
 }
 
-pub fn of_number(answer: NumberState) -> u8
-    ensures { result ≡ number_of (says_number answer) }
+// A name looked up where a string is wanted: 11 for one of another kind too.
+pub fn of_found_string(answer: Option<Found>) -> u8
+    ensures { result ≡ number_of (string_found (says_found answer)) }
 {
     match answer {
-        NumberState::Absent => 0,
-        NumberState::Cancelled => 0,
-        NumberState::Present(_) => 0,
-        NumberState::Refused => 17,
+        Some(Found::Boolean(_)) => 11,
+        Some(Found::Number(_)) => 11,
+        Some(Found::String(_)) => 0,
+        None => 11,
     }
 }
 
-pub fn of_string(answer: StringState) -> u8
-    ensures { result ≡ number_of (says_string answer) }
-{
-    match answer {
-        StringState::Absent => 0,
-        StringState::Cancelled => 0,
-        StringState::Present(_) => 0,
-        StringState::Refused => 17,
+// Of opening or judging a file.
+impl Refusal for FileRefusal {
+    ghost refusal_number = { file_number };
+
+    ghost refusal_values = { file_values };
+
+    fn number(self) -> u8 {
+        match self {
+            FileRefusal::Length => 1,
+            FileRefusal::Magic => 2,
+            FileRefusal::Counts => 3,
+            FileRefusal::Names(_) => 4,
+            FileRefusal::Boolean(_) => 5,
+            FileRefusal::Number(_) => 6,
+            FileRefusal::Slot(_) => 7,
+        }
+    }
+
+    // The position of the first bad byte or slot.
+    fn value(self) -> usize {
+        match self {
+            FileRefusal::Length | FileRefusal::Magic | FileRefusal::Counts => 0,
+            FileRefusal::Names(at) => at,
+            FileRefusal::Boolean(at) => at,
+            FileRefusal::Number(at) => at,
+            FileRefusal::Slot(at) => at,
+        }
     }
 }
 
-pub fn of_written(answer: Written) -> u8
-    ensures { result ≡ number_of (says_written answer) }
-{
-    match answer {
-        Written::File(_) => 0,
-        Written::Counts => 3,
-        Written::Names => 4,
-        Written::Lent => 7,
-        Written::Limit => 13,
-        Written::Size => 9,
-        Written::Room(_) => 8,
+// Of listing every state.
+impl Refusal for ListRefusal {
+    ghost refusal_number = { λ why. number_of (says_listed (Err why)) };
+
+    ghost refusal_values = { λ why. values_of (says_listed (Err why)) };
+
+    fn number(self) -> u8 {
+        match self {
+            ListRefusal::File(why) => why.number(),
+            ListRefusal::Room(_) => 8,
+        }
+    }
+
+    // A bad byte's or slot's position, or how many places there are where an array is too short.
+    fn value(self) -> usize {
+        match self {
+            ListRefusal::File(why) => why.value(),
+            ListRefusal::Room(count) => count,
+        }
     }
 }
 
-pub fn of_merged(answer: Merged) -> u8
-    ensures { result ≡ number_of (says_merged answer) }
-{
-    match answer {
-        Merged::File(_) => 0,
-        Merged::Edition => 3,
-        Merged::First(why) => of_file(why),
-        Merged::Second(why) => of_file(why),
-        Merged::Size => 9,
-        Merged::Room(_) => 8,
+impl Refusal for WriteRefusal {
+    ghost refusal_number = { write_number };
+
+    ghost refusal_values = { write_values };
+
+    fn number(self) -> u8 {
+        match self {
+            WriteRefusal::Counts => 3,
+            WriteRefusal::Names => 4,
+            WriteRefusal::Lent => 7,
+            WriteRefusal::Limit => 13,
+            WriteRefusal::Size => 9,
+            WriteRefusal::Room(_) => 8,
+        }
+    }
+
+    // The file's length where there is too little room.
+    fn value(self) -> usize {
+        match self {
+            WriteRefusal::Room(length) => length,
+            _ => 0,
+        }
+    }
+}
+
+impl Refusal for MergeRefusal {
+    ghost refusal_number = { λ why. number_of (refused_merge why) };
+
+    ghost refusal_values = { λ why. values_of (refused_merge why) };
+
+    fn number(self) -> u8 {
+        match self {
+            MergeRefusal::Edition => 3,
+            MergeRefusal::First(why) => why.number(),
+            MergeRefusal::Second(why) => why.number(),
+            MergeRefusal::Size => 9,
+            MergeRefusal::Room(_) => 8,
+        }
+    }
+
+    // Which file is refused, or the merged file's length where there is too little room.
+    fn value(self) -> usize {
+        match self {
+            MergeRefusal::First(_) => 1,
+            MergeRefusal::Second(_) => 2,
+            MergeRefusal::Room(length) => length,
+            MergeRefusal::Edition | MergeRefusal::Size => 0,
+        }
     }
 }
 
@@ -129,66 +184,57 @@ pub fn of_text(why: TextRefusal) -> u8
     }
 }
 
-pub fn of_compiled(answer: Compiled) -> u8
-    ensures { result ≡ number_of (says_compiled answer) }
-{
-    match answer {
-        Compiled::File(_) => 0,
-        Compiled::Edition => 3,
-        Compiled::Length => 1,
-        Compiled::Refused(why, _) => of_text(why),
-        Compiled::Size => 9,
-        Compiled::Room(_) => 8,
+impl Refusal for CompileRefusal {
+    ghost refusal_number = { λ why. number_of (says_compiled (Err why)) };
+
+    ghost refusal_values = { λ why. values_of (says_compiled (Err why)) };
+
+    fn number(self) -> u8 {
+        match self {
+            CompileRefusal::Edition => 3,
+            CompileRefusal::Length => 1,
+            CompileRefusal::Refused(refused) => of_text(refused.why),
+            CompileRefusal::Size => 9,
+            CompileRefusal::Room(_) => 8,
+        }
+    }
+
+    // The place in the text, or the file's length where there is too little room.
+    fn value(self) -> usize {
+        match self {
+            CompileRefusal::Refused(refused) => refused.at,
+            CompileRefusal::Room(length) => length,
+            _ => 0,
+        }
     }
 }
 
-pub fn of_name(answer: Name) -> u8
-    ensures { result ≡ number_of (says_name answer) }
-{
-    match answer {
-        Name::Packed(_) => 0,
-        Name::Beyond => 17,
-    }
-}
+impl Refusal for ExpansionRefusal {
+    ghost refusal_number = { λ why. number_of (refused_expansion why) };
 
-// A name looked up where a string is wanted: 11 for one of another kind too.
-pub fn of_found_string(answer: Found) -> u8
-    ensures { result ≡ number_of (string_found (says_found answer)) }
-{
-    match answer {
-        Found::Boolean(_) => 11,
-        Found::Number(_) => 11,
-        Found::String(_) => 0,
-        Found::Unknown => 11,
-    }
-}
+    ghost refusal_values = { λ why. values_of (refused_expansion why) };
 
-pub fn of_expansion(answer: Expansion) -> u8
-    ensures { result ≡ number_of (says_expansion answer) }
-{
-    match answer {
-        Expansion::Done {
-            length: _,
-            steps: _,
-        } => 0,
-        Expansion::Place => 17,
-        Expansion::Length => 1,
-        Expansion::Malformed(_) => 14,
-        Expansion::Empty(_) => 15,
-        Expansion::Full(_) => 16,
-        Expansion::Kind(_) => 21,
-        Expansion::Room(_) => 8,
+    fn number(self) -> u8 {
+        match self {
+            ExpansionRefusal::Place => 17,
+            ExpansionRefusal::Length => 1,
+            ExpansionRefusal::Malformed(_) => 14,
+            ExpansionRefusal::Empty(_) => 15,
+            ExpansionRefusal::Full(_) => 16,
+            ExpansionRefusal::Kind(_) => 21,
+            ExpansionRefusal::Room(_) => 8,
+        }
     }
-}
 
-// A name looked up.
-pub fn of_found(answer: Found) -> u8
-    ensures { result ≡ number_of (says_found answer) }
-{
-    match answer {
-        Found::Boolean(_) => 0,
-        Found::Number(_) => 0,
-        Found::String(_) => 0,
-        Found::Unknown => 11,
+    // The item's place in the string, or the output's length where there is too little room.
+    fn value(self) -> usize {
+        match self {
+            ExpansionRefusal::Malformed(at) => at,
+            ExpansionRefusal::Empty(at) => at,
+            ExpansionRefusal::Full(at) => at,
+            ExpansionRefusal::Kind(at) => at,
+            ExpansionRefusal::Room(length) => length,
+            ExpansionRefusal::Place | ExpansionRefusal::Length => 0,
+        }
     }
 }

@@ -10,6 +10,7 @@ ghost use Rattle.item_parts.specs.Right.{RightItem};
 ghost use Rattle.right_classes.specs.Parts.{RightLexed, Closed, RightWidth, WidthEnd};
 
 use expansion::{Class, Classed};
+use item_parts::classed;
 
 // The place behind the `}` of a constant whose digits start at a place.
 fn braced_end(s: &[u8], j: usize) -> usize
@@ -17,6 +18,7 @@ fn braced_end(s: &[u8], j: usize) -> usize
     ensures { result ≡ digits_end s.now j + 1 }
 {
     let mut i: usize = j;
+    // the `}` ends the digits of a right constant: a range has a test for the string's end besides
     while s[i] != b'}' {
         i += 1;
     }
@@ -29,15 +31,6 @@ fn width_end(s: &[u8], k: usize) -> usize
     ensures { WidthEnd s.now k result }
 {
     if s[k + 1] <= b'9' { k + 3 } else { k + 2 }
-}
-
-fn classed(class: Class, next: usize) -> Classed
-    ensures { result ≡ record { class = class; next = next } }
-{
-    Classed {
-        class: class,
-        next: next,
-    }
 }
 
 // The class of the right item whose second byte is at a place.
@@ -54,13 +47,10 @@ fn percent_class(s: &[u8], j: usize) -> Classed
         b'p' => classed(Class::Plain, j + 2),
         b'P' => classed(Class::Plain, j + 2),
         b'g' => classed(Class::Plain, j + 2),
-        39 => classed(Class::Plain, j + 3),
+        b'\'' => classed(Class::Plain, j + 3),
         b'{' => classed(Class::Plain, braced_end(s, j + 1)),
         b'0' => classed(Class::Plain, width_end(s, j + 1)),
-        b'1' | b'2' | b'3' | b'4' | b'5' | b'6' | b'7' | b'8' | b'9' => classed(
-            Class::Plain,
-            width_end(s, j),
-        ),
+        b'1'..=b'9' => classed(Class::Plain, width_end(s, j)),
         _ => classed(Class::Plain, j + 1),
     }
 }

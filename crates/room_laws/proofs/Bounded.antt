@@ -11,6 +11,7 @@ use lib.Dec.{leb, ltb}
 use lib.IntN.{ℤ}
 use lib.ListN.{length, get_or, take, drop, length-append}
 use borrow.Author.Tests.{leb-false}
+use Rattle.std.specs.Prelude.{Ok}
 use Rattle.base.proofs.IfLaws.{if_both, not-true}
 use Rattle.base.specs.Answer.{Answer, number_of}
 use Rattle.base.specs.Tabulate.{Each}
@@ -19,7 +20,6 @@ use Rattle.expansion.specs.Limits.{string_most, stack_most, text_most, room_for}
 use Rattle.expansion.specs.declared.Argument.{Argument}
 use Rattle.expansion.specs.declared.Item.{Item}
 use Rattle.expansion.specs.declared.Item.TheVariants as I
-use Rattle.expansion.specs.declared.Form.TheVariants as F
 use Rattle.expansion.specs.Items.{item_at}
 use Rattle.expansion.specs.Form.{form_of}
 use Rattle.expansion.specs.Values.{Value, no_value, number_in}
@@ -185,7 +185,7 @@ short_more most s i x y l h k =
     rw (length-append x y) (omega (arith, h, k, c, d, item_on s i l))
 
 module _ (most : ℕ) (s : List ℕ) (arguments : List Argument) (lent : List ℕ) (lasting : List ℤ)
-    (fits : most ≤ text_most) (bytes : Each Byte s) (right : form_of s ≡ F.Right)
+    (fits : most ≤ text_most) (bytes : Each Byte s) (right : form_of s ≡ Ok tt)
     (given : Each (ValueWithin most) (values_of lent arguments)) (kept : Each Value32 lasting) where
   -- the place at which it ends, at the end of the string and not past it: the steps and the output are bounded by it
   run_place : (m : Machine) (out : List ℕ) (k : ℕ) → run s (values_of lent arguments) lasting ≡ finished m out k

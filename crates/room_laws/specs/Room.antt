@@ -4,13 +4,12 @@
 -- arguments and all variables, and `numbers_bounded` that for numbers it is 25 times n as before. No count of a
 -- definition's turns bounds it: a run is the chain of its steps (`run_ends` of expansion_laws).
 -- Assumes nothing.
-use Rattle.std.specs.Prelude.{◌≡◌, List, ℕ, ◌+◌, ◌-◌, ◌*◌, ◌^◌, ◌≤◌, ◌<◌, ℤ, pos, negsuc, length}
+use Rattle.std.specs.Prelude.{◌≡◌, List, ℕ, ◌+◌, ◌-◌, ◌*◌, ◌^◌, ◌≤◌, ◌<◌, ℤ, pos, negsuc, length, Ok}
 use Rattle.base.specs.If.{when◌then◌else◌}
 use Rattle.base.specs.Answer.{refused}
 use Rattle.base.specs.Tabulate.{Each}
 use Rattle.expansion.specs.Limits.{room_for, text_most}
 use Rattle.expansion.specs.declared.Argument.{Argument}
-use Rattle.expansion.specs.declared.Form.TheVariants.{Right}
 use Rattle.expansion.specs.Items.{item_at}
 use Rattle.expansion.specs.Form.{form_of}
 use Rattle.expansion.specs.Values.{Value, number, text}
@@ -57,7 +56,7 @@ pub record Bounded (most : ℕ) (s : List ℕ) (arguments : List Argument) (lent
 -- bytes each, up to 1,000
 abbrev pub AlwaysBounded : Type 0
 AlwaysBounded = (most : ℕ) (s : List ℕ) (arguments : List Argument) (lent : List ℕ) (lasting : List ℤ)
-    → most ≤ text_most → Each Byte s → form_of s ≡ Right → Each (ValueWithin most) (values_of lent arguments)
+    → most ≤ text_most → Each Byte s → form_of s ≡ Ok tt → Each (ValueWithin most) (values_of lent arguments)
     → Each Value32 lasting → Bounded most s arguments lent lasting
 
 -- with numbers alone "never produces more than 25 times n bytes", so that "with such room 8 cannot be given"
@@ -69,4 +68,4 @@ pub record NumbersBounded (s : List ℕ) (arguments : List ℤ) (lent : List ℕ
 
 abbrev pub AlwaysNumbersBounded : Type 0
 AlwaysNumbersBounded = (s : List ℕ) (arguments : List ℤ) (lent : List ℕ) (lasting : List ℤ) → Each Byte s
-    → form_of s ≡ Right → Each Value32 arguments → Each Value32 lasting → NumbersBounded s arguments lent lasting
+    → form_of s ≡ Ok tt → Each Value32 arguments → Each Value32 lasting → NumbersBounded s arguments lent lasting

@@ -11,7 +11,8 @@ use Rattle.base.specs.Answer.{gives}
 use Rattle.edition.specs.declared.Edition.{Edition}
 use Rattle.edition.specs.Edition.{place, ok_edition, booleans_most, numbers_most, strings_most}
 use Rattle.entry.specs.declared.Part.{Part}
-use Rattle.entry.specs.Asking.{Opening, opening}
+use Rattle.entry.specs.Asking.{opening}
+use Rattle.entry.specs.declared.Opening.{Opening}
 use Rattle.entry_laws.specs.Accepted.{test_passed}
 use Rattle.entry_laws.specs.Merge.{edition_counts}
 use Rattle.states.specs.Held.{IsPart}

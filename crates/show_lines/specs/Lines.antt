@@ -1,6 +1,6 @@
 -- The lines that `ti show` prints of a file in an edition: its names, each capability that is present or cancelled.
 -- Assumes nothing.
-use Rattle.std.specs.Prelude.{List, [], ◌∷◌, ◌++◌, ℕ, ◌+◌, ◌-◌, ltb}
+use Rattle.std.specs.Prelude.{List, [], ◌∷◌, ◌++◌, ℕ, ◌+◌, ◌-◌, ltb, Option, Some, None}
 use Rattle.base.specs.If.{when◌then◌else◌}
 use Rattle.edition.specs.declared.Edition.{Edition}
 use Rattle.edition.specs.declared.Kind.TheVariants.{Boolean, String}
@@ -9,7 +9,8 @@ use Rattle.edition.specs.Edition.{place}
 use Rattle.entry.specs.Limits.{file_most}
 use Rattle.base.specs.Answer.{Answer, refused, gives}
 use Rattle.entry.specs.Reading.{bytes_of}
-use Rattle.entry.specs.Asking.{Opening, asking_names, asking_boolean, asking_string, names_given}
+use Rattle.entry.specs.declared.Opening.{Opening}
+use Rattle.entry.specs.Asking.{asking_names, asking_boolean, asking_string, names_given}
 use Rattle.names.specs.Names.{ascii}
 use Rattle.names.specs.declared.Found.{Found}
 use Rattle.names.specs.declared.Found.TheVariants as Capability
@@ -46,11 +47,11 @@ count_in e (refused n v) = 0
 count_in e (gives o) = (e.booleans + e.numbers) + e.strings
 
 -- the capability that looking a name up gave
-abbrev pub found_line : Edition → List ℕ → Found → List ℕ
-found_line e f (Capability.Boolean p) = boolean_line e f p
-found_line e f (Capability.Number p) = number_line e f p
-found_line e f (Capability.String p) = string_line e f p
-found_line e f Capability.Unknown = []
+abbrev pub found_line : Edition → List ℕ → Option Found → List ℕ
+found_line e f (Some (Capability.Boolean p)) = boolean_line e f p
+found_line e f (Some (Capability.Number p)) = number_line e f p
+found_line e f (Some (Capability.String p)) = string_line e f p
+found_line e f None = []
 
 unfoldable pub names_line : Edition → List ℕ → List ℕ
 names_line e f = ascii "names: " ++ (shown_names (bytes_of f (names_given (asking_names e f))) ++ line_end)

@@ -1,21 +1,20 @@
 -- Laws that the proofs cite: names from their numbers, decimal numbers, and what stands behind either.
 -- Assumes nothing.
+use Rattle.std.specs.Int.{byte_at, bytes_low_first}
 use mathlib.Core.Path.{◌≡◌, refl, sym, ap, subst, ◌∙◌}
 use mathlib.Core.Bool.{Bool, true, false}
-use mathlib.Core.List.{List, [], ◌∷◌, ◌++◌, map, append_assoc, append-nil}
+use mathlib.Core.List.{List, [], ◌∷◌, ◌++◌, map, append_assoc}
 use Prim.Native.Nat.{ℕ, zero, suc, ◌+◌, ◌-◌, ◌*◌, ◌/◌, ◌%◌, ◌^◌, ◌≤◌, ◌<◌}
-use native.Mathlib.Nat.{le_refl, pow-suc, one-le-pow}
+use native.Mathlib.Nat.{le_refl, pow-suc, one-le-pow, div-div-eq-div-mul}
 use native.Mathlib.Omega.{arith}
-use lib.ListN.{length, get_or, set, take, length-append, get_or-map}
+use lib.ListN.{length, get_or, take, get_or-map}
 use borrow.Author.Tests.{eq-eqb, ne_eqb, lt-ltb}
 use Rattle.io.specs.Counts.{IsPrefixLen}
 use Rattle.io.specs.Digits.{IsDigitCount}
 use Rattle.io.specs.Digits.{last_digits as lastDigits}
 use Rattle.base.specs.If.{when◌then◌else◌}
 use Rattle.base.specs.Answer.{refused, gives}
-use Rattle.base.specs.Overwrite.{put_at}
 use Rattle.base.proofs.IfLaws.{below_or}
-use Rattle.base.proofs.OverwriteLaws.{length_put, put_nil, put_store}
 use Rattle.word.specs.Word.{word, bytes}
 use Rattle.edition.specs.declared.Kind.{Kind}
 use Rattle.edition.specs.declared.Kind.TheVariants as Kinds
@@ -30,73 +29,34 @@ use Rattle.show_names.specs.Naming.{decimal, kind_word, name_of, name_room}
 
 -- ---- a name's bytes from its number
 
--- of the bytes of a name's number w before its first NUL, those put so far, and the number rest that holds at most left more
-pub record Unpacking (b₀ b : List ℕ) (w rest end : ℕ) : Type 0 where
-  pub left : ℕ
-  pub done : List ℕ
-  pub room : 8 ≤ length b₀
-  pub buffer : b ≡ put_at b₀ 0 done
-  pub behind : end ≡ length done
-  pub places : end + left ≡ 8
-  pub fits : rest < 256 ^ left
-  pub split : unpacked w ≡ done ++ before_nul (bytes left rest)
+byte_is : (i n : ℕ) → byte_at i n ≡ n / 256 ^ i % 256
+byte_is zero n = omega arith
+byte_is (suc i) n = refl
 
-pub unpacking_start : (b : List ℕ) (w : ℕ) → 8 ≤ length b → w < 2 ^ 64 → Unpacking b b w w 0
-unfolding unpacked
-unpacking_start b w h l =
-    record {
-      left = 8;
-      done = [];
-      room = h;
-      buffer = sym (put_nil b 0);
-      behind = refl;
-      places = omega arith;
-      fits = omega arith;
-      split = refl;
-    }
+low_bytes : (i k n : ℕ) → bytes_low_first i k n ≡ bytes k (n / 256 ^ i)
+unfolding bytes
+low_bytes i zero n = refl
+low_bytes i (suc k) n =
+    let q : n / 256 ^ suc i ≡ n / 256 ^ i / 256 = ap (λ (p : ℕ). n / p) (pow-suc 256 i) ∙ sym (div-div-eq-div-mul n (256 ^ i) 256) in
+    ap (λ (x : ℕ). x ∷ bytes_low_first (suc i) k n) (byte_is i n)
+    ∙ ap (λ (xs : List ℕ). n / 256 ^ i % 256 ∷ xs) (low_bytes (suc i) k n ∙ ap (bytes k) q)
 
-left_some : (k rest : ℕ) → rest < 256 ^ k → (rest % 256 ≡ 0 → ⊥) → 0 < k
-left_some zero rest l z = absurd (z (omega arith))
-left_some (suc k) rest l z = omega arith
+-- the library's bytes of a number are document 01's
+pub eight_bytes : (n : ℕ) → bytes_low_first 0 8 n ≡ bytes 8 n
+eight_bytes n = low_bytes 0 8 n ∙ ap (bytes 8) (omega arith)
 
-nul_first : (k rest : ℕ) → rest % 256 ≡ 0 → before_nul (bytes k rest) ≡ []
-unfolding before_nul bytes
-nul_first zero rest e = refl
-nul_first (suc k) rest e = rw (eq-eqb (rest % 256) 0 e)
+-- the bytes before the first NUL
+pub before_first : (s : List ℕ) (i : ℕ) → i < length s → get_or s i 0 ≡ 0 → ((k : ℕ) → k < i → get_or s k 0 ≡ 0 → ⊥) → take i s ≡ before_nul s
+unfolding before_nul
+before_first [] i l e h = absurd (let z : ⊥ = omega arith in z)
+before_first (c ∷ s) zero l e h = rw (eq-eqb c 0 e)
+before_first (c ∷ s) (suc i) l e h =
+    rw (ne_eqb c 0 (h 0 (omega arith))) (ap (λ (xs : List ℕ). c ∷ xs) (before_first s i (omega arith) e (λ k m. h (suc k) (omega arith))))
 
-byte_first : (k rest : ℕ) → (rest % 256 ≡ 0 → ⊥) → before_nul (bytes (suc k) rest) ≡ rest % 256 ∷ before_nul (bytes k (rest / 256))
-unfolding before_nul bytes
-byte_first k rest z = rw (ne_eqb (rest % 256) 0 z)
-
-pub unpacking_length : {b₀ b : List ℕ} {w rest end : ℕ} → Unpacking b₀ b w rest end → length b ≡ length b₀
-unpacking_length {b₀} p = ap length p.buffer ∙ length_put b₀ 0 p.done (omega arith)
-
-pub unpacking_room : {b₀ b : List ℕ} {w rest end : ℕ} → Unpacking b₀ b w rest end → (rest % 256 ≡ 0 → ⊥) → end < 8
-unpacking_room {rest = rest} p z = omega (arith, left_some p.left rest p.fits z)
-
-pub unpacking_next : {b₀ b : List ℕ} {w rest end : ℕ} → Unpacking b₀ b w rest end → (rest % 256 ≡ 0 → ⊥)
-    → Unpacking b₀ (set b end (rest % 256)) w (rest / 256) (end + 1)
-unpacking_next {b₀} {b} {w} {rest} {end} p z =
-    let k : ℕ = p.left - 1 in
-    let s : p.left ≡ suc k = omega (arith, left_some p.left rest p.fits z) in
-    let more : List ℕ = p.done ++ (rest % 256 ∷ []) in
-    let f : rest < 256 ^ k * 256 = rw (s, pow-suc 256 k) at p.fits in
-    let q : before_nul (bytes p.left rest) ≡ rest % 256 ∷ before_nul (bytes k (rest / 256)) = ap (λ (j : ℕ). before_nul (bytes j rest)) s ∙ byte_first k rest z in
-    record {
-      left = k;
-      done = more;
-      room = p.room;
-      buffer = put_store b₀ b 0 end (rest % 256) p.done more p.buffer (omega arith) refl (omega arith);
-      behind = sym (simp length-append (omega arith));
-      places = omega arith;
-      fits = omega arith;
-      split = p.split ∙ ap (λ (l : List ℕ). p.done ++ l) q ∙ sym (append_assoc p.done (rest % 256 ∷ []) (before_nul (bytes k (rest / 256))));
-    }
-
-pub unpacking_end : {b₀ b : List ℕ} {w rest end : ℕ} → Unpacking b₀ b w rest end → rest % 256 ≡ 0 → Puts b₀ b 0 (unpacked w) 8 end
-unpacking_end {rest = rest} p z =
-    let e : unpacked _ ≡ p.done = p.split ∙ rw (nul_first p.left rest z) (append-nil p.done) in
-    rw e (record { buffer = p.buffer; behind = omega arith; few = omega arith })
+pub before_none : (s : List ℕ) → ((k : ℕ) → k < length s → get_or s k 0 ≡ 0 → ⊥) → s ≡ before_nul s
+unfolding before_nul
+before_none [] h = refl
+before_none (c ∷ s) h = rw (ne_eqb c 0 (h 0 (omega arith))) (ap (λ (xs : List ℕ). c ∷ xs) (before_none s (λ k m. h (suc k) (omega arith))))
 
 -- ---- names
 

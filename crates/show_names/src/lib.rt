@@ -1,6 +1,6 @@
 // Puts what lines are made of: texts, decimal numbers, and capabilities by their names or, where the list has no name
-// at the place, by kind and place. Proved: each function puts what its contract says, by specs/Naming.antt. Assumed:
-// nothing.
+// at the place, by kind and place; and what the lines of a file are made from, `OpenFile`. Proved: each function puts
+// what its contract says, by specs/Naming.antt. Assumed: nothing.
 #![tactic(auto)]
 
 ghost use Rattle.std.specs.Prelude.{◌++◌, ◌+◌, ◌≤◌, length};
@@ -9,7 +9,10 @@ ghost use Rattle.shown.specs.Puts.{Puts};
 ghost use Rattle.show_names.specs.Naming.{decimal, kind_word, name_of, name_room};
 
 use edition::{Kind, Place};
-use names::Name;
+
+mod open_file;
+
+pub use open_file::OpenFile;
 
 // Puts bytes, and answers the place behind them.
 pub fn put_text(out: &mut [u8], at: usize, text: &[u8]) -> usize
@@ -33,19 +36,16 @@ pub fn put_number(out: &mut [u8], at: usize, n: u64, behind: &[u8]) -> usize
     put_text(out, end, behind)
 }
 
-// Puts a name whose bytes are those of a number, low byte first.
+// Puts a name whose bytes are those of a number, low byte first, up to the first NUL.
 fn put_packed(out: &mut [u8], name: u64) -> usize
     requires { 8 ≤ length out.old }
     ensures { Puts out.old out.new 0 (unpacked name) 8 result }
 {
-    let mut rest = name;
-    let mut end = 0;
-    while rest % 256 != 0 {
-        out[end] = (rest % 256) as u8;
-        rest = rest / 256;
-        end += 1;
+    let bytes = name.to_le_bytes();
+    match bytes.iter().position(|c| *c == 0) {
+        Some(n) => put_text(out, 0, &bytes[..n]),
+        None => put_text(out, 0, &bytes),
     }
-    end
 }
 
 // Puts what stands before a place.
@@ -67,11 +67,11 @@ pub fn put_named(out: &mut [u8], kind: Kind, place: Place, behind: &[u8]) -> usi
         (name_room + length behind.now) result }
 {
     match names::name_of(kind, place) {
-        Name::Packed(name) => {
+        Some(name) => {
             let end = put_packed(out, name);
             put_text(out, end, behind)
         }
-        Name::Beyond => {
+        None => {
             let end = put_kind(out, kind);
             put_number(out, end, place.0 as u64, behind)
         }

@@ -13,16 +13,11 @@ pub const CONTENT_LEAST: u8 = 33;
 pub const NAMES_LEAST: u8 = 32;
 
 // Whether a byte stands for itself.
+#[tactic(auto, unfolding(crate::specs::Shown::is_plain))]
 fn is_plain(least: u8, c: u8) -> bool
     ensures { result ≡ is_plain least c }
 {
-    if c < least {
-        return false;
-    }
-    if 126 < c {
-        return false;
-    }
-    c != b'\\'
+    least <= c && c <= 126 && c != b'\\'
 }
 
 // Puts a backslash and three octal digits.
@@ -54,10 +49,8 @@ pub fn show(out: &mut [u8], at: usize, least: u8, bytes: &[u8]) -> usize
         (4 * length bytes.now) result }
 {
     let mut end = at;
-    let mut i = 0;
-    while i < bytes.len() {
-        end = put_shown(out, end, least, bytes[i]);
-        i += 1;
+    for c in bytes {
+        end = put_shown(out, end, least, *c);
     }
     end
 }

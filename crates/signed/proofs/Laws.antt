@@ -1,17 +1,11 @@
 -- Laws of 32-bit values, stated over ℤ and proved by the sign.
 -- Assumes nothing.
-use Rattle.std.proofs.Common.{◌≡◌, ℕ, zero, suc, ◌+◌, ◌-◌, ◌*◌, ◌/◌, ◌%◌, ◌^◌, ◌<◌, ◌≤◌, Bool, true, false, T, eqb, ltb, ℤ, pos, negsuc, ◌+ℤ◌, ◌-ℤ◌, ◌*ℤ◌, neg_ℤ, sym, refl, ap, ◌∙◌, subst, ap₂, lt_of_le_of_lt, le_of_lt, mul_comm, add-mul, mul-le-mul_left, mul-lt-mul_of_pos_right, mul-add, sub-add_cancel, div-le_self, div-one, arith, lit<, pow_pos, pow-add, to_z-of_z, w32, w64, SFits, to_z, of_z, ltb-false, ltb-true, le-ltb, lt-ltb, ne_eqb}
-use native.Mathlib.Nat.{div-lt_self}
+use Rattle.std.proofs.Common.{lt_of_le_of_lt, ◌≡◌, ℕ, zero, suc, ◌+◌, ◌-◌, ◌*◌, ◌/◌, ◌%◌, ◌^◌, ◌<◌, ◌≤◌, Bool, true, false, eqb, ltb, ℤ, pos, negsuc, ◌+ℤ◌, ◌-ℤ◌, ◌*ℤ◌, neg_ℤ, sym, refl, ap, ◌∙◌, ap₂, mul_comm, add-mul, mul-add, sub-add_cancel, div-le_self, arith, to_z-of_z, w32, SFits, to_z, of_z, ltb-false, ltb-true, ne_eqb}
 use lib.IntN.{sub_ℕ}
-use lib.Signed.{mag, lt_z, quot_z, rem_z, mag_rem}
+use lib.Signed.{mag, quot_z, rem_z, mag_rem}
 use mir.Val.{hbits}
-use mir.Facts.{sfits_widen, Fits-of_z, to_z-neg, to_z_pos}
-use Rattle.signed.specs.Signed.{low32, wrap, subtract, divide, remainder, is_zero}
-
--- ---- a product of two numbers
-
-pub below : (k : ℕ) {a b : ℕ} → a < 2 ^ k → b < 2 ^ k → a * b < 2 ^ (k + k)
-below k {a} {b} ha hb = rw (pow-add 2 k k) (lt_of_le_of_lt (mul-le-mul_left a (le_of_lt hb)) (mul-lt-mul_of_pos_right ha (pow_pos k)))
+use mir.Facts.{Fits-of_z}
+use Rattle.signed.specs.Signed.{low32, wrap, divide, remainder, is_zero}
 
 -- ---- calls: values go in and come out as bits, and the result r is in its range
 
@@ -24,30 +18,6 @@ called f {a} {r} h k e = again r k ∙ e ∙ ap f (to_z-of_z {w = w32} {z = a} h
 pub called_two : (f : ℤ → ℤ → ℤ) {a b r : ℤ} → SFits w32 a → SFits w32 b → mag r < 2 ^ hbits w32
     → r ≡ f (to_z w32 (of_z w32 a)) (to_z w32 (of_z w32 b)) → to_z w32 (of_z w32 r) ≡ f a b
 called_two f {a} {b} {r} h k l e = again r l ∙ e ∙ ap₂ f (to_z-of_z {w = w32} {z = a} h) (to_z-of_z {w = w32} {z = b} k)
-
--- a value made of bits, which are made of those of two values
-pub by_bits : (f : ℕ → ℕ → ℕ) {a b r : ℤ} {x y : ℕ} → SFits w32 a → SFits w32 b → mag r < 2 ^ hbits w32 → x ≡ of_z w32 (to_z w32 (of_z w32 a))
-    → y ≡ of_z w32 (to_z w32 (of_z w32 b)) → r ≡ to_z w32 (f x y) → to_z w32 (of_z w32 r) ≡ to_z w32 (f (of_z w32 a) (of_z w32 b))
-by_bits f {a} {b} {r} h k l p q e =
-    let p' = p ∙ ap (of_z w32) (to_z-of_z {w = w32} {z = a} h) in
-    let q' = q ∙ ap (of_z w32) (to_z-of_z {w = w32} {z = b} k) in
-    again r l ∙ e ∙ ap₂ (λ (m n : ℕ). to_z w32 (f m n)) p' q'
-
--- ---- bits and values
-
-pub widened : {z : ℤ} → SFits w32 z → to_z w64 (of_z w64 (to_z w32 (of_z w32 z))) ≡ z
-widened {z} h = rw (to_z-of_z {w = w32} {z = z} h) (to_z-of_z {w = w64} {z = z} (sfits_widen {w = w32} {w' = w64} tt h))
-
-pub lifted : (z : ℤ) → SFits w32 z → lt_z z (pos 0) ≡ true → z +ℤ pos 4294967296 ≡ pos (of_z w32 z)
-lifted (pos n) h t = absurd (let q : n < 0 = ltb-true n 0 t in omega arith)
-lifted (negsuc n) h t = let q : n < 2147483648 = h.sfits in rw (le-ltb 4294967296 (suc n) (omega arith))
-
-pub not_negative : (z : ℤ) → lt_z z (pos 0) ≡ false → z ≡ pos (of_z w32 z)
-not_negative (pos n) t = refl
-not_negative (negsuc n) t = absurd (subst T t tt)
-
-pub lowered : (n : ℕ) → 2147483648 ≤ n → n < 2 ^ 32 → to_z w64 n -ℤ pos 4294967296 ≡ to_z w32 n
-lowered n l u = rw (to_z_pos w64 {n = n} (omega arith), lt-ltb n 4294967296 (omega arith), le-ltb n 2147483648 l)
 
 -- ---- the lowest 32 bits of a sum, a difference and a product
 
@@ -129,60 +99,37 @@ low_mul (negsuc a) (negsuc b) h k =
 
 -- ---- division
 
-pub wrap_fits : (z : ℤ) → SFits w32 z → wrap z ≡ z
-unfolding wrap low32
-wrap_fits (pos n) h = let p : n < 2147483648 = h.sfits in rw (let e : n % 2 ^ 32 ≡ n = omega arith in e) (to_z_pos w32 {n = n} p)
-wrap_fits (negsuc n) h =
-    let p : n < 2147483648 = h.sfits in
-    rw (let e : 2 ^ 32 - 1 - n % 2 ^ 32 ≡ 2 ^ 32 - suc n = omega arith in e) (to_z-neg w32 n p)
-
 pub zero_of : (z : ℤ) → SFits w32 z → of_z w32 z ≡ 0 → z ≡ pos 0
 zero_of (pos n) h e = ap pos e
 zero_of (negsuc n) h e = absurd (let p : n < 2147483648 = h.sfits in omega arith)
 
-pub minus_one_of : (z : ℤ) → SFits w32 z → of_z w32 z ≡ 4294967295 → z ≡ negsuc 0
-minus_one_of (pos n) h e = absurd (let p : n < 2147483648 = h.sfits in omega arith)
-minus_one_of (negsuc n) h e = let p : n < 2147483648 = h.sfits in ap negsuc (omega arith)
+-- the lowest 32 bits of the negative of a number up to 2^31
+low_negative : (n : ℕ) → n ≤ 2147483648 → low32 (neg_ℤ (pos n)) ≡ of_z w32 (neg_ℤ (pos n))
+unfolding low32
+low_negative zero k = refl
+low_negative (suc n) k = omega arith
 
-pub quot_minus_one : (a : ℤ) → SFits w32 a → subtract (pos 0) a ≡ divide a (negsuc 0)
-unfolding subtract divide
-quot_minus_one (pos zero) h = refl
-quot_minus_one (pos (suc n)) h = let e : suc n - 1 ≡ n = omega arith in rw (div-one, lt-ltb 0 (suc n) (omega arith), e)
-quot_minus_one (negsuc n) h = let e : 0 + suc n ≡ suc n = omega arith in rw (div-one, e)
+-- a quotient is at most 2^31
+low_div : (a b : ℤ) → SFits w32 a → low32 (quot_z a b) ≡ of_z w32 (quot_z a b)
+unfolding low32
+low_div (pos a) (pos b) h = let p : a < 2147483648 = h.sfits in omega (arith, div-le_self a b)
+low_div (pos a) (negsuc b) h =
+    let p : a < 2147483648 = h.sfits in low_negative (a / suc b) (omega (arith, div-le_self a (suc b)))
+low_div (negsuc a) (pos b) h =
+    let p : a < 2147483648 = h.sfits in low_negative (suc a / b) (omega (arith, div-le_self (suc a) b))
+low_div (negsuc a) (negsuc b) h = let p : a < 2147483648 = h.sfits in omega (arith, div-le_self (suc a) (suc b))
 
--- the negative of a number up to 2^31
-negative_fits : (n : ℕ) → n ≤ 2147483648 → SFits w32 (neg_ℤ (pos n))
-negative_fits zero k = record { sfits = lit< tt }
-negative_fits (suc n) k = record { sfits = k }
-
-pub quot_fits : (a b : ℤ) → SFits w32 a → (b ≡ pos 0 → ⊥) → (b ≡ negsuc 0 → ⊥) → SFits w32 (quot_z a b)
-quot_fits (pos a) (pos b) h z m = let p : a < 2147483648 = h.sfits in record { sfits = omega (arith, div-le_self a b) }
-quot_fits (pos a) (negsuc b) h z m = let p : a < 2147483648 = h.sfits in negative_fits (a / suc b) (omega (arith, div-le_self a (suc b)))
-quot_fits (negsuc a) (pos b) h z m = let p : a < 2147483648 = h.sfits in negative_fits (suc a / b) (omega (arith, div-le_self (suc a) b))
-quot_fits (negsuc a) (negsuc zero) h z m = absurd (m refl)
-quot_fits (negsuc a) (negsuc (suc b)) h z m =
-    let p : a < 2147483648 = h.sfits in
-    record { sfits = omega (arith, div-lt_self {n = suc a} {k = suc (suc b)} (omega arith) (omega arith)) }
-
-pub not_zero : (b : ℤ) → SFits w32 b → (of_z w32 b ≡ 0 → ⊥) → 0 < of_z w32 b
-not_zero b h n = omega arith
-
-pub div_is : (a b : ℤ) → (b ≡ pos 0 → ⊥) → SFits w32 (quot_z a b) → quot_z a b ≡ divide a b
-unfolding divide
-div_is a (pos zero) z h = absurd (z refl)
-div_is a (pos (suc b)) z h = rw (ne_eqb (suc b) 0 (λ e. omega arith)) (sym (wrap_fits _ h))
-div_is a (negsuc b) z h = sym (wrap_fits _ h)
+pub div_is : (a b : ℤ) → SFits w32 a → (b ≡ pos 0 → ⊥) → to_z w32 (of_z w32 (quot_z a b)) ≡ divide a b
+unfolding divide wrap
+div_is a (pos zero) h z = absurd (z refl)
+div_is a (pos (suc b)) h z = rw (ne_eqb (suc b) 0 (λ e. omega arith)) (ap (to_z w32) (sym (low_div a (pos (suc b)) h)))
+div_is a (negsuc b) h z = ap (to_z w32) (sym (low_div a (negsuc b) h))
 
 pub rem_is : (a b : ℤ) → (b ≡ pos 0 → ⊥) → rem_z a b ≡ remainder a b
 unfolding remainder
 rem_is a (pos zero) z = absurd (z refl)
 rem_is a (pos (suc b)) z = rw (ne_eqb (suc b) 0 (λ e. omega arith))
 rem_is a (negsuc b) z = refl
-
-pub rem_minus_one : (a : ℤ) → pos 0 ≡ remainder a (negsuc 0)
-unfolding remainder
-rem_minus_one (pos n) = ap pos (omega arith)
-rem_minus_one (negsuc n) = rw (let e : suc n % 1 ≡ 0 = omega arith in e)
 
 pub rem_fits : (a b : ℤ) → SFits w32 a → SFits w32 (rem_z a b)
 rem_fits a b h = record { sfits = lt_of_le_of_lt (mag_rem a b) h.sfits }

@@ -1,20 +1,22 @@
 -- What expanding a file's string gives, and what a call that does so promises (document 01: Expansion).
 -- Assumes nothing.
-use Rattle.std.specs.Prelude.{◌≡◌, not, List, [], ℕ, leb, ℤ, pos, replicate}
+use Rattle.std.specs.Prelude.{◌≡◌, not, List, [], ℕ, leb, ℤ, pos, replicate, Result, Ok, Err}
 use Rattle.edition.specs.declared.Edition.{Edition}
 use Rattle.edition.specs.declared.Place.{Place}
 use Rattle.base.specs.If.{when◌then◌else◌}
 use Rattle.base.specs.Answer.{Answer, refused, gives, map_answer}
 use Rattle.base.specs.Overwrite.{put_at}
 use Rattle.entry.specs.declared.Part.{Part}
+use Rattle.entry.specs.declared.State as S
 use Rattle.entry.specs.State.{State, absent, cancelled, present, map_state}
+use Rattle.entry.specs.Says.{state_meant}
 use Rattle.entry.specs.Reading.{bytes_of}
 use Rattle.entry.specs.Asking.{asking_string}
 use Rattle.expansion.specs.declared.Argument.{Argument}
 use Rattle.expansion.specs.Arguments.{lies_in, each_passes}
-use Rattle.expansion.specs.Expanding.{Expanding, expanding, Counts, counted, says_expansion}
-use Rattle.terminfo.specs.declared.ExpandedString.{ExpandedString}
-use Rattle.terminfo.specs.declared.ExpandedString.TheVariants as X
+use Rattle.expansion.specs.declared.Output.{Output}
+use Rattle.expansion.specs.declared.ExpansionRefusal.{ExpansionRefusal}
+use Rattle.expansion.specs.Expanding.{Expanding, expanding, Counts, counted, refused_expansion}
 
 -- the variables A to Z, all 0
 abbrev pub zero_lasting : List ℤ
@@ -46,13 +48,15 @@ state_output b at (gives cancelled) = b
 state_output b at (gives (present x)) = put_at b at x.output
 
 -- what the code's answer says: the string's state, a present one with its output's length and the steps
-abbrev pub says_expanded_string : ExpandedString → Answer (State Counts)
-says_expanded_string X.Absent = gives absent
-says_expanded_string X.Cancelled = gives cancelled
-says_expanded_string (X.Expansion r) = map_answer present (says_expansion r)
+abbrev pub counts_of : Output → Counts
+counts_of o = record { length = o.length; steps = o.steps }
+
+abbrev pub says_expanded_string : Result (S.State Output) ExpansionRefusal → Answer (State Counts)
+says_expanded_string (Ok s) = gives (map_state counts_of (state_meant s))
+says_expanded_string (Err r) = map_answer present (refused_expansion r)
 
 -- a call that comes to a, over a buffer with bytes b before and b' after, answers r
-pub record WrittenAs (a : Answer (State Expanding)) (b : List ℕ) (at : ℕ) (b' : List ℕ) (r : ExpandedString) : Type 0
-  where
-    pub answer : says_expanded_string r ≡ map_answer (map_state counted) a
-    pub output : b' ≡ state_output b at a
+pub record WrittenAs (a : Answer (State Expanding)) (b : List ℕ) (at : ℕ) (b' : List ℕ)
+    (r : Result (S.State Output) ExpansionRefusal) : Type 0 where
+  pub answer : says_expanded_string r ≡ map_answer (map_state counted) a
+  pub output : b' ≡ state_output b at a

@@ -3,9 +3,10 @@
 // `entry_numbers`. Proved: each answers every value as the definition that its contract names. Assumed: nothing.
 #![tactic(auto)]
 
-ghost use Rattle.std.specs.Prelude.{◌≡◌, [], length};
-ghost use Rattle.entry.specs.Asking.{asking_string};
-ghost use Rattle.entry.specs.Says.{says_names, says_boolean, says_number, says_string};
+ghost use Rattle.std.specs.Prelude.{◌≡◌, [], ◌+◌, ◌≤◌, length};
+ghost use Rattle.base.specs.Answer.{gives};
+ghost use Rattle.entry.specs.Asking.{asking_string, part_given};
+ghost use Rattle.entry.specs.Says.{says_asked, says_state, state_meant};
 ghost use Rattle.expansion.specs.Limits.{room_for};
 ghost use Rattle.expansion.specs.Counting.{room_of};
 ghost use Rattle.expansion.specs.Arguments.{numbers_given};
@@ -13,14 +14,14 @@ ghost use Rattle.expansion.specs.Expanding.{expanding};
 ghost use Rattle.expand_output.specs.Answers.{LentAs};
 ghost use Rattle.terminfo.specs.Entries.{opened_entry};
 ghost use Rattle.entry_numbers.specs.Entries.{entry_refusal, entry_names, entry_boolean, entry_number, entry_string};
-ghost use Rattle.entry_numbers.specs.Entries.{entry_beyond, says_beyond, says_refusal};
-ghost use Rattle.terminfo.specs.Lent.{zero_lasting, expanding_at, WrittenAs};
+ghost use Rattle.entry_numbers.specs.Entries.{entry_beyond, says_refusal};
+ghost use Rattle.terminfo.specs.Lent.{zero_lasting, expanding_asked, expanding_at, WrittenAs};
 ghost use Rattle.terminfo.specs.Parts.{NamesAs, StringAs};
 
 use edition::{Edition, Place};
-use entry::{BooleanState, Names, NumberState, StringState};
-use entry_numbers::{BeyondEdition, EntryNumbers, EntryRefusal};
-use expansion::{Argument, Expansion, Lasting};
+use entry::{Beyond, Part, State};
+use entry_numbers::{EntryNumbers, EntryRefusal};
+use expansion::{Argument, ExpansionRefusal, Lasting, Output};
 
 // An entry: the caller's bytes and what opening gave for them.
 #[derive(Clone, Copy)]
@@ -32,14 +33,14 @@ pub struct Entry<'a> {
 // The names, and their bytes in the caller's.
 #[derive(Clone, Copy)]
 pub struct NamesPart<'a> {
-    pub names: Names,
+    pub names: Option<Part>,
     pub bytes: &'a [u8],
 }
 
 // A string's state, and its content's bytes in the caller's.
 #[derive(Clone, Copy)]
 pub struct StringPart<'a> {
-    pub state: StringState,
+    pub state: Option<State<Part>>,
     pub bytes: &'a [u8],
 }
 
@@ -53,15 +54,15 @@ pub fn open<'a>(file: &'a [u8], edition: Edition) -> Entry<'a>
 
 // What opening said of the file: accepted, or why not, with the position of the first bad byte or slot; 17 for an
 // entry that opening would not give.
-pub fn refusal<'a>(e: Entry<'a>) -> EntryRefusal
+pub fn refusal<'a>(e: Entry<'a>) -> Result<(), EntryRefusal>
     ensures { says_refusal result ≡ entry_refusal e.entry.file.now e.entry.numbers }
 {
     entry_numbers::refusal_in(e.file, e.numbers)
 }
 
 // The names, without their NUL.
-pub fn names<'a>(e: Entry<'a>) -> Names
-    ensures { says_names result ≡ entry_names e.entry.file.now e.entry.numbers }
+pub fn names<'a>(e: Entry<'a>) -> Option<Part>
+    ensures { says_asked result ≡ entry_names e.entry.file.now e.entry.numbers }
 {
     entry_numbers::names_in(e.file, e.numbers)
 }
@@ -76,22 +77,22 @@ pub fn names_part<'a>(e: Entry<'a>) -> NamesPart<'a>
 }
 
 // The state of the boolean at a place.
-pub fn boolean<'a>(e: Entry<'a>, place: Place) -> BooleanState
-    ensures { says_boolean result ≡ entry_boolean e.entry.file.now e.entry.numbers place }
+pub fn boolean<'a>(e: Entry<'a>, place: Place) -> Option<State<()>>
+    ensures { says_state result ≡ entry_boolean e.entry.file.now e.entry.numbers place }
 {
     entry_numbers::boolean_in(e.file, e.numbers, place)
 }
 
 // The state of the number at a place.
-pub fn number<'a>(e: Entry<'a>, place: Place) -> NumberState
-    ensures { says_number result ≡ entry_number e.entry.file.now e.entry.numbers place }
+pub fn number<'a>(e: Entry<'a>, place: Place) -> Option<State<u32>>
+    ensures { says_state result ≡ entry_number e.entry.file.now e.entry.numbers place }
 {
     entry_numbers::number_in(e.file, e.numbers, place)
 }
 
 // The state of the string at a place: where its content stands in the file.
-pub fn string<'a>(e: Entry<'a>, place: Place) -> StringState
-    ensures { says_string result ≡ entry_string e.entry.file.now e.entry.numbers place }
+pub fn string<'a>(e: Entry<'a>, place: Place) -> Option<State<Part>>
+    ensures { says_state result ≡ entry_string e.entry.file.now e.entry.numbers place }
 {
     entry_numbers::string_in(e.file, e.numbers, place)
 }
@@ -107,8 +108,8 @@ pub fn string_part<'a>(e: Entry<'a>, place: Place) -> StringPart<'a>
 }
 
 // How many slots of the file lie beyond the edition, in each list.
-pub fn beyond<'a>(e: Entry<'a>) -> BeyondEdition
-    ensures { says_beyond result ≡ entry_beyond e.entry.file.now e.entry.numbers }
+pub fn beyond<'a>(e: Entry<'a>) -> Option<Beyond>
+    ensures { says_asked result ≡ entry_beyond e.entry.file.now e.entry.numbers }
 {
     entry_numbers::beyond_in(e.file, e.numbers)
 }
@@ -129,7 +130,7 @@ pub fn expand(
     lasting: &mut Lasting,
     out: &mut [u8],
     at: usize,
-) -> Expansion
+) -> Result<Output, ExpansionRefusal>
     ensures { LentAs (length string.now) (room_for (length string.now))
         (expanding string.now (numbers_given arguments) [] lasting.old.values
         (length out.old) at) lasting.old.values lasting.new.values
@@ -149,7 +150,7 @@ pub fn expand_texts(
     lasting: &mut Lasting,
     out: &mut [u8],
     at: usize,
-) -> Expansion
+) -> Result<Output, ExpansionRefusal>
     ensures { LentAs (length string.now) (room_of string.now)
         (expanding string.now arguments texts.now lasting.old.values
         (length out.old) at) lasting.old.values lasting.new.values
@@ -167,18 +168,10 @@ pub fn zero_lasting() -> Lasting
     Lasting { values: [0; 26] }
 }
 
-// What expanding a file's string answers.
-#[derive(Clone, Copy)]
-pub enum ExpandedString {
-    Absent,
-    Cancelled,
-    // of a present string; 17 also where opening would refuse, or the place is beyond the edition
-    Expansion(Expansion),
-}
-
 // Opens a file and expands the string at a place with nine numbers, and with lasting variables that are 0 at first and
-// are not given back. Its parameters are plain: a caller's proof is made by the check. The output holds no NUL
-// (`numbers_at_no_nul` of specs/NoNul.antt).
+// are not given back. An absent or a cancelled string is not expanded, and its state is the answer; 17 also where
+// opening would refuse, or the place is beyond the edition. Its parameters are plain: a caller's proof is made by the
+// check. The output holds no NUL (`numbers_at_no_nul` of specs/NoNul.antt).
 pub fn open_expand(
     file: &[u8],
     edition: Edition,
@@ -186,7 +179,7 @@ pub fn open_expand(
     arguments: [i32; 9],
     out: &mut [u8],
     at: usize,
-) -> ExpandedString
+) -> Result<State<Output>, ExpansionRefusal>
     ensures { WrittenAs (expanding_at edition file.now place (numbers_given arguments) []
         (length out.old) at) out.old at out.new result }
 {
@@ -201,8 +194,37 @@ pub fn open_expand(
     )
 }
 
-// The same with arguments that are numbers or parts of a block of texts. The output holds no NUL where no text holds
-// one (`expanding_at_no_nul` of specs/NoNul.antt).
+// What a file's string gives that has a state: a present one is expanded.
+pub fn expand_state(
+    file: &[u8],
+    state: State<Part>,
+    arguments: [Argument; 9],
+    texts: &[u8],
+    out: &mut [u8],
+    at: usize,
+) -> Result<State<Output>, ExpansionRefusal>
+    requires { (part_given (gives (state_meant state))).start + (part_given (gives (state_meant state))).length
+        ≤ length file.now }
+    ensures { WrittenAs (expanding_asked file.now arguments texts.now (length out.old) at
+        (gives (state_meant state))) out.old at out.new result }
+{
+    match state {
+        State::Present(p) => {
+            let string = states::part(file, p);
+            let e = expand::expand_texts(string, arguments, texts, zero_lasting(), out, at);
+            let answer = e.answer;
+            match answer {
+                Ok(output) => Ok(State::Present(output)),
+                Err(why) => Err(why),
+            }
+        }
+        State::Absent => Ok(State::Absent),
+        State::Cancelled => Ok(State::Cancelled),
+    }
+}
+
+// As `open_expand`, with arguments that are numbers or parts of a block of texts. The output holds no NUL where no text
+// holds one (`expanding_at_no_nul` of specs/NoNul.antt).
 pub fn open_expand_texts(
     file: &[u8],
     edition: Edition,
@@ -211,25 +233,18 @@ pub fn open_expand_texts(
     texts: &[u8],
     out: &mut [u8],
     at: usize,
-) -> ExpandedString
+) -> Result<State<Output>, ExpansionRefusal>
     ensures { WrittenAs (expanding_at edition file.now place arguments texts.now
         (length out.old) at) out.old at out.new result }
 {
     if out.len() < at {
-        return ExpandedString::Expansion(Expansion::Place);
+        return Err(ExpansionRefusal::Place);
     }
     if !arguments::all_lie_in(arguments, texts.len()) {
-        return ExpandedString::Expansion(Expansion::Place);
+        return Err(ExpansionRefusal::Place);
     }
     match states::string(file, edition, place) {
-        StringState::Present(p) => {
-            let string = states::part(file, p);
-            let e = expand::expand_texts(string, arguments, texts, zero_lasting(), out, at);
-            let answer = e.answer;
-            ExpandedString::Expansion(answer)
-        }
-        StringState::Absent => ExpandedString::Absent,
-        StringState::Cancelled => ExpandedString::Cancelled,
-        StringState::Refused => ExpandedString::Expansion(Expansion::Place),
+        Some(state) => expand_state(file, state, arguments, texts, out, at),
+        None => Err(ExpansionRefusal::Place),
     }
 }

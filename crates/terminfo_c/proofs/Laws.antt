@@ -13,27 +13,35 @@ use Rattle.base.specs.Scan.{every}
 use Rattle.base.specs.Tabulate.{tabulate}
 use Rattle.edition.specs.declared.Edition.{Edition}
 use Rattle.edition.specs.Edition.{ok_edition}
-use Rattle.entry.specs.declared.Names.{Names}
-use Rattle.entry.specs.declared.Written.{Written}
-use Rattle.entry.specs.declared.Written.TheVariants as W
-use Rattle.entry.specs.declared.Merged.{Merged}
-use Rattle.entry.specs.declared.Merged.TheVariants as G
+use Rattle.std.specs.Prelude.{Result, Ok, Err}
+use Rattle.entry.specs.declared.Opening.{Opening}
+use Rattle.entry.specs.declared.WriteRefusal.{WriteRefusal}
+use Rattle.entry.specs.declared.WriteRefusal.TheVariants as W
+use Rattle.entry.specs.declared.MergeRefusal.{MergeRefusal}
+use Rattle.entry.specs.declared.MergeRefusal.TheVariants as G
+use Rattle.list_states.specs.declared.ListRefusal.{ListRefusal}
+use Rattle.list_states.specs.declared.ListRefusal.TheVariants as L
+use Rattle.text.specs.declared.CompileRefusal.{CompileRefusal}
+use Rattle.text.specs.declared.CompileRefusal.TheVariants as C
+use Rattle.text.specs.Compiling.{says_compiled}
+use Rattle.building_laws.specs.Values as values
 use Rattle.entry.specs.declared.Sizes.{Sizes}
 use Rattle.entry.specs.Limits.{file_most}
 use Rattle.base.specs.Answer.{Answer, refused, gives, map_answer, and_then, number_of}
 use Rattle.entry.specs.Layout.{sizes_of}
 use Rattle.entry.specs.Reading.{reading}
-use Rattle.entry.specs.Asking.{Opening, opening}
+use Rattle.entry.specs.Asking.{opening}
 use Rattle.entry.specs.Writing.{Handed, encode, entry_of, enough_states, names_fit, is_lent, states_fit, writing}
 use Rattle.entry.specs.Merging.{merged, of_file, merging}
-use Rattle.entry.specs.Says.{file_number, says_written, says_merged}
+use Rattle.entry.specs.Says.{file_number, write_number, write_values, says_written, says_merged}
 use Rattle.entry_laws.specs.Accepted.{reading_lines}
 use Rattle.entry_laws.specs.Demands.{written_only_if}
 use Rattle.entry_laws.specs.MergeDemands.{merged_only_if}
 use Rattle.file_positions.proofs.Positions.{merged_fits}
-use Rattle.list_states.specs.Listing.{done}
+use Rattle.list_states.specs.Listing.{done, says_listed, ValueFits}
 use Rattle.c_numbers.specs.Numbers.{numbered, merging_number, none, opening_array}
-use Rattle.c_numbers.specs.Numbers.{WrittenWithin, MergedWithin}
+use Rattle.c_numbers.specs.Numbers.{WrittenWithin, MergedWithin, LengthWithin}
+use Rattle.refusal_numbers.specs.Refusals.{values_of, says_by}
 use Rattle.c_numbers.proofs.Laws.{file_most_lem}
 use Rattle.c_asked.specs.Asked.{asked_code, asking8}
 use Rattle.terminfo_c.specs.Calls.{array_after}
@@ -116,19 +124,19 @@ room_most e h room =
     bounded_if (leb size file_most) 9 _ (λ q. omega arith) (λ l.
     bounded_room size room _ (leb-true size file_most l))))))
 
-pub written_within : (e : Edition) (h : Handed) (room : ℕ) (w : Written) → says_written w ≡ map_answer length (writing e h room) → WrittenWithin w
-written_within e h room (W.File n) g =
+pub written_within : (e : Edition) (h : Handed) (room : ℕ) (w : Result ℕ WriteRefusal) → says_written w ≡ map_answer length (writing e h room) → WrittenWithin w
+written_within e h room (Ok n) g =
     let p = map_gives n (writing e h room) g in
     let q = written_only_if e h room p.0 p.1.1 in
     let l : n ≡ length (encode (entry_of e h)) = p.1.0 ∙ ap length q.1.1 in
     let m = q.0.size in
     omega arith
-written_within e h room W.Counts g = tt
-written_within e h room W.Names g = tt
-written_within e h room W.Lent g = tt
-written_within e h room W.Limit g = tt
-written_within e h room W.Size g = tt
-written_within e h room (W.Room n) g = room_most e h room n (map_refused 8 (n ∷ []) (writing e h room) g)
+written_within e h room (Err W.Counts) g = omega arith
+written_within e h room (Err W.Names) g = omega arith
+written_within e h room (Err W.Lent) g = omega arith
+written_within e h room (Err W.Limit) g = omega arith
+written_within e h room (Err W.Size) g = omega arith
+written_within e h room (Err (W.Room n)) g = room_most e h room n (map_refused 8 (n ∷ []) (writing e h room) g)
 
 -- ---- merging
 
@@ -158,20 +166,20 @@ merge_room_most e a b room =
     (bounded_if (leb size file_most) 9 _ (λ q. omega arith) (λ l.
     bounded_room size room _ (leb-true size file_most l)))))
 
-pub merged_within : (e : Edition) (a b : List ℕ) (room : ℕ) (m : Merged) → says_merged m ≡ map_answer length (merging e a b room) → MergedWithin m
-merged_within e a b room (G.File n) g =
+pub merged_within : (e : Edition) (a b : List ℕ) (room : ℕ) (m : Result ℕ MergeRefusal) → says_merged m ≡ map_answer length (merging e a b room) → MergedWithin m
+merged_within e a b room (Ok n) g =
     let p = map_gives n (merging e a b room) g in
     let q = merged_only_if e a b room p.0 p.1.1 in
     let l : n ≡ length (encode (merged e a b)) = p.1.0 ∙ ap length q.1.1 in
     let m = q.0.size in
     omega arith
-merged_within e a b room G.Edition g = tt
-merged_within e a b room (G.First r) g =
+merged_within e a b room (Err G.Edition) g = tt
+merged_within e a b room (Err (G.First r)) g =
     merged_fits e a b room (file_number r) _ (sym (map_refused _ _ (merging e a b room) g)) (file_most_lem r)
-merged_within e a b room (G.Second r) g =
+merged_within e a b room (Err (G.Second r)) g =
     merged_fits e a b room (file_number r) _ (sym (map_refused _ _ (merging e a b room) g)) (file_most_lem r)
-merged_within e a b room G.Size g = tt
-merged_within e a b room (G.Room n) g = merge_room_most e a b room n (map_refused 8 (n ∷ []) (merging e a b room) g)
+merged_within e a b room (Err G.Size) g = tt
+merged_within e a b room (Err (G.Room n)) g = merge_room_most e a b room n (map_refused 8 (n ∷ []) (merging e a b room) g)
 
 -- a length is the same number before and after the file is counted
 pub numbered_length : (a : Answer (List ℕ)) → numbered (λ n. n) (map_answer length a) ≡ numbered length a
@@ -191,3 +199,36 @@ pub numbered_done : {A : Type 0} (a : Answer A) → numbered none (map_answer do
 unfolding numbered
 numbered_done (refused n v) = refl
 numbered_done (gives x) = refl
+
+-- ---- what the answers of writing, listing and compiling say, by the numbers and values of their refusals
+
+pub written_by : (w : Result ℕ WriteRefusal) → says_by write_number write_values w ≡ says_written w
+written_by (Ok n) = refl
+written_by (Err r) = refl
+
+pub written_bits : (w : Result ℕ WriteRefusal) → WrittenWithin w → LengthWithin write_values w
+written_bits (Ok n) h = tt
+written_bits (Err r) h = omega arith
+
+pub compiled_by : (c : Result ℕ CompileRefusal)
+    → says_by (λ why. number_of (says_compiled (Err why))) (λ why. values_of (says_compiled (Err why))) c
+    ≡ says_compiled c
+compiled_by (Ok n) = refl
+compiled_by (Err C.Edition) = refl
+compiled_by (Err C.Length) = refl
+compiled_by (Err (C.Refused r)) = refl
+compiled_by (Err C.Size) = refl
+compiled_by (Err (C.Room n)) = refl
+
+pub compiled_bits : (c : Result ℕ CompileRefusal) → values.Bounded (says_compiled c)
+    → LengthWithin (λ why. values_of (says_compiled (Err why))) c
+compiled_bits (Ok n) h = tt
+compiled_bits (Err C.Edition) h = omega arith
+compiled_bits (Err C.Length) h = omega arith
+compiled_bits (Err (C.Refused r)) h = omega arith
+compiled_bits (Err C.Size) h = omega arith
+compiled_bits (Err (C.Room n)) h = omega arith
+
+pub list_bits : (why : ListRefusal) → ValueFits (Err why) → get_or (values_of (says_listed (Err why))) 0 0 < 2 ^ 48
+list_bits (L.File r) h = omega arith
+list_bits (L.Room n) h = omega arith

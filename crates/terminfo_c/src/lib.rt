@@ -21,9 +21,20 @@ ghost use Rattle.terminfo_c.specs.Calls.{array_after, FileNumber, ListedNumber};
 ghost use Rattle.list_states.specs.Listing.{arrays};
 
 use edition::{Edition, Place};
-use entry::Opened;
+use entry::{Numbers, States, Strings};
 
 mod list;
+
+// The edition of three counts.
+fn edition_of(booleans: usize, numbers: usize, strings: usize) -> Edition
+    ensures { result ≡ edition booleans numbers strings }
+{
+    Edition {
+        booleans,
+        numbers,
+        strings,
+    }
+}
 
 // Opens a file: 0, with the array filled, or the refusal with the position of the first bad byte or slot.
 #[unsafe(no_mangle)]
@@ -38,19 +49,12 @@ pub extern "C" fn terminfo_open(
         × (tables.new ≡ array_after tables.old
         (map_answer opening_array (opening (edition booleans numbers strings) file.now))) }
 {
-    match read::open(
-        file,
-        Edition {
-            booleans,
-            numbers,
-            strings,
-        },
-    ) {
-        Opened::Entry(t, b) => {
-            *tables = c_numbers::opening_array(t, b);
+    match read::open(file, edition_of(booleans, numbers, strings)) {
+        Ok(opening) => {
+            *tables = c_numbers::opening_array(opening);
             0
         }
-        Opened::Refused(why) => c_numbers::file_number(why),
+        Err(why) => c_numbers::refusal(why),
     }
 }
 
@@ -64,14 +68,7 @@ pub extern "C" fn terminfo_names(
 ) -> u64
     ensures { result ≡ numbered part_code (asking_names (edition booleans numbers strings) file.now) }
 {
-    let n = states::names(
-        file,
-        Edition {
-            booleans,
-            numbers,
-            strings,
-        },
-    );
+    let n = states::names(file, edition_of(booleans, numbers, strings));
     c_numbers::names_number(n)
 }
 
@@ -86,16 +83,8 @@ pub extern "C" fn terminfo_boolean(
 ) -> u64
     ensures { result ≡ boolean_state booleans numbers strings file.now place }
 {
-    let s = states::boolean(
-        file,
-        Edition {
-            booleans,
-            numbers,
-            strings,
-        },
-        Place(place),
-    );
-    c_numbers::boolean_number(s)
+    let s = states::boolean(file, edition_of(booleans, numbers, strings), Place(place));
+    c_numbers::state_number(s)
 }
 
 // The state of the number at a place.
@@ -109,16 +98,8 @@ pub extern "C" fn terminfo_number(
 ) -> u64
     ensures { result ≡ number_state booleans numbers strings file.now place }
 {
-    let s = states::number(
-        file,
-        Edition {
-            booleans,
-            numbers,
-            strings,
-        },
-        Place(place),
-    );
-    c_numbers::number_number(s)
+    let s = states::number(file, edition_of(booleans, numbers, strings), Place(place));
+    c_numbers::state_number(s)
 }
 
 // The state of the string at a place.
@@ -132,16 +113,8 @@ pub extern "C" fn terminfo_string(
 ) -> u64
     ensures { result ≡ string_state booleans numbers strings file.now place }
 {
-    let s = states::string(
-        file,
-        Edition {
-            booleans,
-            numbers,
-            strings,
-        },
-        Place(place),
-    );
-    c_numbers::string_number(s)
+    let s = states::string(file, edition_of(booleans, numbers, strings), Place(place));
+    c_numbers::state_number(s)
 }
 
 // Eight places at once: 0, with the answers stored, or 17 where opening would refuse.
@@ -160,18 +133,14 @@ pub extern "C" fn terminfo_ask(
         × (answers.new ≡ array_after answers.old
         (asking8 (edition booleans numbers strings) file.now kinds.now places.now)) }
 {
-    let e = Edition {
-        booleans,
-        numbers,
-        strings,
-    };
+    let e = edition_of(booleans, numbers, strings);
     let o = read::open(file, e);
     match o {
-        Opened::Entry(_, _) => {
+        Ok(_) => {
             *answers = c_asked::asked_numbers(file, e, o, kinds, places);
             0
         }
-        Opened::Refused(_) => 17 * c_numbers::TOP,
+        Err(_) => 17 * c_numbers::TOP,
     }
 }
 
@@ -197,11 +166,7 @@ pub extern "C" fn terminfo_list(
 {
     let l = list_states::list(
         file,
-        Edition {
-            booleans,
-            numbers,
-            strings,
-        },
+        edition_of(booleans, numbers, strings),
         boolean_kinds,
         number_kinds,
         number_values,
@@ -234,23 +199,26 @@ pub extern "C" fn terminfo_write(
         string_lengths.now lent.now) (length buffer.old))
         buffer.old buffer.new result }
 {
-    let w = write::write(
-        Edition {
-            booleans,
-            numbers,
-            strings,
-        },
-        names,
+    let states = States {
         boolean_kinds,
-        number_kinds,
-        number_values,
-        string_kinds,
-        string_starts,
-        string_lengths,
+        numbers: Numbers {
+            kinds: number_kinds,
+            values: number_values,
+        },
+        strings: Strings {
+            kinds: string_kinds,
+            starts: string_starts,
+            lengths: string_lengths,
+        },
+    };
+    let w = write::write(
+        edition_of(booleans, numbers, strings),
+        names,
+        &states,
         lent,
         buffer,
     );
-    c_numbers::written_number(w)
+    c_numbers::length_number(w)
 }
 
 // Merges the first file over the second: the merged file's length, or the refusal, of a file with which one it was.
@@ -270,11 +238,7 @@ pub extern "C" fn terminfo_merge(
     let m = merge::merge(
         first,
         second,
-        Edition {
-            booleans,
-            numbers,
-            strings,
-        },
+        edition_of(booleans, numbers, strings),
         buffer,
     );
     c_numbers::merged_number(m)
@@ -293,17 +257,8 @@ pub extern "C" fn terminfo_compile(
     ensures { FileNumber (numbered length) (compiling (edition booleans numbers strings) text.now
         (named wanted.now) (length buffer.old)) buffer.old buffer.new result }
 {
-    let c = compile::compile(
-        Edition {
-            booleans,
-            numbers,
-            strings,
-        },
-        text,
-        wanted,
-        buffer,
-    );
-    c_numbers::compiled_number(c)
+    let c = compile::compile(edition_of(booleans, numbers, strings), text, wanted, buffer);
+    c_numbers::length_number(c)
 }
 
 // Compiles a text's first description: the file's length, or the refusal.
@@ -318,16 +273,8 @@ pub extern "C" fn terminfo_compile_first(
     ensures { FileNumber (numbered length) (compiling (edition booleans numbers strings)
         text.now first (length buffer.old)) buffer.old buffer.new result }
 {
-    let c = compile::compile_first(
-        Edition {
-            booleans,
-            numbers,
-            strings,
-        },
-        text,
-        buffer,
-    );
-    c_numbers::compiled_number(c)
+    let c = compile::compile_first(edition_of(booleans, numbers, strings), text, buffer);
+    c_numbers::length_number(c)
 }
 
 // The name at a place of a kind's list: its bytes, low byte first.
@@ -361,7 +308,7 @@ pub extern "C" fn terminfo_expand(
 pub extern "C" fn terminfo_find(name: &[u8], booleans: usize, numbers: usize, strings: usize) -> u64
     ensures { result ≡ find_number booleans numbers strings name.now }
 {
-    c_asked::find(name, booleans, numbers, strings)
+    c_asked::find(name, edition_of(booleans, numbers, strings))
 }
 
 // The state of the capability that a name means: 11 for a name that the edition doesn't know, else the state.
@@ -375,5 +322,5 @@ pub extern "C" fn terminfo_state(
 ) -> u64
     ensures { result ≡ named_state booleans numbers strings file.now name.now }
 {
-    c_asked::state(file, booleans, numbers, strings, name)
+    c_asked::state(file, edition_of(booleans, numbers, strings), name)
 }

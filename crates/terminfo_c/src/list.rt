@@ -3,15 +3,15 @@ ghost use Rattle.std.specs.Prelude.{◌≡◌};
 ghost use Rattle.c_numbers.specs.Numbers.{numbered, none};
 ghost use Rattle.list_states.specs.Listing.{says_listed, ValueFits};
 
-use list_states::Listed;
+use list_states::ListRefusal;
 
-pub fn listed_number(l: Listed) -> u64
-    requires { ValueFits l }
-    ensures { result ≡ numbered none (says_listed l) }
+#[tactic(auto, unfolding(c_numbers::specs::Numbers::numbered))]
+pub fn listed_number(answer: Result<(), ListRefusal>) -> u64
+    requires { ValueFits answer }
+    ensures { result ≡ numbered none (says_listed answer) }
 {
-    match l {
-        Listed::Done => 0,
-        Listed::Refused(why) => c_numbers::file_number(why),
-        Listed::Room(count) => 8 * c_numbers::TOP + count as u64,
+    match answer {
+        Ok(_) => 0,
+        Err(why) => c_numbers::refusal(why),
     }
 }

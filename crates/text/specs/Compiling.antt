@@ -1,6 +1,6 @@
 -- What compiling gives (document 01: Source text; Numbers of refusal, order of text; document 02, 2026-01 and 2026-02).
 -- Assumes nothing.
-use Rattle.std.specs.Prelude.{not, List, [], ◌∷◌, ℕ, leb, length}
+use Rattle.std.specs.Prelude.{not, List, [], ◌∷◌, ℕ, leb, length, Result, Ok, Err}
 use Rattle.base.specs.If.{when◌then◌else◌}
 use Rattle.edition.specs.declared.Edition.{Edition}
 use Rattle.edition.specs.Edition.{ok_edition}
@@ -8,11 +8,10 @@ use Rattle.entry.specs.Limits.{given_names_most}
 use Rattle.base.specs.Answer.{Answer, refused, gives}
 use Rattle.entry.specs.Reading.{Entry}
 use Rattle.entry.specs.Writing.{encode, fitting}
-use Rattle.text.specs.declared.TextRefusal.{TextRefusal}
-use Rattle.text.specs.declared.TextRefusal.TheVariants as R
-use Rattle.text.specs.declared.Compiled.{Compiled}
-use Rattle.text.specs.declared.Compiled.TheVariants as C
+use Rattle.text.specs.declared.CompileRefusal.{CompileRefusal}
+use Rattle.text.specs.declared.CompileRefusal.TheVariants as C
 use Rattle.text.specs.Bytes.{text_most}
+unfoldable pub use Rattle.text.specs.Refusals.{text_number, text_refused}
 use Rattle.text.specs.Building.{Wanted, building_text}
 
 -- "9, 8", "judged on the outcome only"; room is the buffer's length, and what is given is the file
@@ -37,19 +36,11 @@ fitting_named room x =
 
 -- ---- what each case of an answer says
 
-abbrev pub text_number : TextRefusal → ℕ
-text_number R.Malformed = 10
-text_number R.Unknown = 11
-text_number R.Limit = 13
-text_number R.NotFound = 18
-text_number R.Circular = 19
-text_number R.NinthUse = 20
-
 -- what is given is the file's length
-abbrev pub says_compiled : Compiled → Answer ℕ
-says_compiled (C.File n) = gives n
-says_compiled C.Edition = refused 3 []
-says_compiled C.Length = refused 1 []
-says_compiled (C.Refused r p) = refused (text_number r) (p ∷ [])
-says_compiled C.Size = refused 9 []
-says_compiled (C.Room n) = refused 8 (n ∷ [])
+abbrev pub says_compiled : Result ℕ CompileRefusal → Answer ℕ
+says_compiled (Ok n) = gives n
+says_compiled (Err C.Edition) = refused 3 []
+says_compiled (Err C.Length) = refused 1 []
+says_compiled (Err (C.Refused r)) = text_refused r
+says_compiled (Err C.Size) = refused 9 []
+says_compiled (Err (C.Room n)) = refused 8 (n ∷ [])

@@ -2,7 +2,7 @@
 -- 11, 13; document 02, 2026-02).
 -- Assumes nothing.
 use Rattle.std.specs.Prelude.{List, [], ◌∷◌, ◌++◌, ℕ, zero, suc, ◌+◌, ◌-◌, leb, length, get_or, set, take, drop}
-use Rattle.std.specs.Prelude.{replicate}
+use Rattle.std.specs.Prelude.{replicate, Option, Some, None, Result, Ok, Err}
 use Rattle.base.specs.If.{when◌then◌else◌}
 use Rattle.base.specs.Loop.{Turn, go, stop, loop}
 use Rattle.edition.specs.declared.Edition.{Edition}
@@ -19,14 +19,13 @@ use Rattle.names.specs.Lookup.{same_bytes, looking_up}
 use Rattle.text.specs.declared.FieldForm.{FieldForm}
 use Rattle.text.specs.declared.FieldForm.TheVariants as F
 use Rattle.text.specs.declared.Field.{Field}
-use Rattle.text.specs.declared.Field.TheVariants.{Right, Malformed}
 use Rattle.text.specs.declared.Line.{Line}
 use Rattle.text.specs.declared.Line.TheVariants.{End, Column, Indented}
-use Rattle.text.specs.declared.Header.{Header}
-use Rattle.text.specs.declared.Header.TheVariants as H
+use Rattle.text.specs.declared.TextRefusal.{TextRefusal}
 use Rattle.text.specs.Strings.{read_at, read_bytes}
 use Rattle.text.specs.Lines.{line_at, next_at}
 use Rattle.text.specs.Fields.{field_at}
+use Rattle.text.specs.Refusals.{text_number}
 use Rattle.text.specs.Heading.{names_to, header_at}
 
 -- ---- one field
@@ -65,11 +64,11 @@ string_by t p F.LargeNumber = refused 11 (p ∷ [])
 string_by t p (F.String i n) =
     when leb n content_most then gives (present (read_bytes (read_at t i))) else refused 13 (p ∷ [])
 
-unfoldable pub saying_of : List ℕ → ℕ → FieldForm → Found → Answer Saying
-saying_of t p f (N.Boolean q) = map_answer (boolean q) (boolean_by p f)
-saying_of t p f (N.Number q) = map_answer (number q) (number_by p f)
-saying_of t p f (N.String q) = map_answer (string q) (string_by t p f)
-saying_of t p f N.Unknown = refused 11 (p ∷ [])
+unfoldable pub saying_of : List ℕ → ℕ → FieldForm → Option Found → Answer Saying
+saying_of t p f (Some (N.Boolean q)) = map_answer (boolean q) (boolean_by p f)
+saying_of t p f (Some (N.Number q)) = map_answer (number q) (number_by p f)
+saying_of t p f (Some (N.String q)) = map_answer (string q) (string_by t p f)
+saying_of t p f None = refused 11 (p ∷ [])
 
 -- "`use=` (its string, escapes taken) names one". Left free by document 02: `use` in another form, which is 11, and a
 -- string above 1,000 bytes, which is 13 as for any field
@@ -91,11 +90,11 @@ pub record Judging : Type 0 where
   pub saying : Saying
   pub next : ℕ
 
-abbrev pub judging_of : Edition → List ℕ → ℕ → Field → Answer Judging
-judging_of e t p (Right dropped i k f next) =
-    map_answer (λ (s : Saying). record { saying = s; next = next })
-    (when dropped then gives nothing else named_saying e t p (take (k - i) (drop i t)) f)
-judging_of e t p Malformed = refused 10 (p ∷ [])
+abbrev pub judging_of : Edition → List ℕ → ℕ → Option Field → Answer Judging
+judging_of e t p (Some f) =
+    map_answer (λ (s : Saying). record { saying = s; next = f.next })
+    (when f.dropped then gives nothing else named_saying e t p (take (f.end - f.name) (drop f.name t)) f.form)
+judging_of e t p None = refused 10 (p ∷ [])
 
 -- the field whose first byte is at p
 unfoldable pub judging : Edition → List ℕ → ℕ → Answer Judging
@@ -198,10 +197,9 @@ description p n ss = record { place = p; names = n; sayings = ss }
 
 -- a header behind the 64th description: "a 65th header is 13". Left free by document 02: when. It is in the text's
 -- order, behind its own 10
-abbrev pub one_too_many : ℕ → Header → Answer (List Description)
-one_too_many p (H.Right c) = refused 13 (p ∷ [])
-one_too_many p H.Malformed = refused 10 (p ∷ [])
-one_too_many p H.LongAlias = refused 13 (p ∷ [])
+abbrev pub one_too_many : ℕ → Result ℕ TextRefusal → Answer (List Description)
+one_too_many p (Ok c) = refused 13 (p ∷ [])
+one_too_many p (Err r) = refused (text_number r) (p ∷ [])
 
 -- what stands behind a description's fields: another description, or the text's end
 abbrev pub behind_fields : (ℕ → Answer (List Description)) → Line → Answer (List Description)
@@ -215,10 +213,10 @@ with_later later p n (gives f) =
     map_answer (λ (ds : List Description). description p n f.sayings ∷ ds) (behind_fields later f.behind)
 
 -- the header at i, whose refusals give p, its fields, and the descriptions behind them
-abbrev pub headed : Edition → List ℕ → (ℕ → Answer (List Description)) → (p i : ℕ) → Header → Answer (List Description)
-headed e t later p i (H.Right c) = with_later later p (names_to t i c) (sayings_from e t (c + 1))
-headed e t later p i H.Malformed = refused 10 (p ∷ [])
-headed e t later p i H.LongAlias = refused 13 (p ∷ [])
+abbrev pub headed : Edition → List ℕ → (ℕ → Answer (List Description)) → (p i : ℕ) → Result ℕ TextRefusal
+    → Answer (List Description)
+headed e t later p i (Ok c) = with_later later p (names_to t i c) (sayings_from e t (c + 1))
+headed e t later p i (Err r) = refused (text_number r) (p ∷ [])
 
 -- the descriptions from the line in column 1 at i on, where so many more may come: "a later header that is bad .. gives
 -- its own" first byte. Left free by document 02: a later line in column 1 that is no header. It is a bad header

@@ -2,15 +2,15 @@
 -- then only white space to the line's end; the text's end closes a line too".
 -- Assumes nothing.
 use Rattle.std.specs.Prelude.{Bool, false, ◌&&◌, ◌||◌, not, List, [], ◌∷◌, ℕ, ◌+◌, ◌-◌, leb, ltb, length, get_or}
-use Rattle.std.specs.Prelude.{take, drop}
+use Rattle.std.specs.Prelude.{take, drop, Result, Ok, Err}
 use Prim.Native.Char.{code}
 use Rattle.base.specs.If.{when◌then◌else◌}
 use Rattle.base.specs.Scan.{every}
 use Rattle.names.specs.Names.{parted}
 use Rattle.text.specs.declared.ByteClass.{ByteClass}
 use Rattle.text.specs.declared.ByteClass.TheVariants as C
-use Rattle.text.specs.declared.Header.{Header}
-use Rattle.text.specs.declared.Header.TheVariants.{Right, Malformed, LongAlias}
+use Rattle.text.specs.declared.TextRefusal.{TextRefusal}
+use Rattle.text.specs.declared.TextRefusal.TheVariants.{Malformed, Limit}
 use Rattle.text.specs.Bytes.{◌is◌, is_in, run_end}
 
 -- "alias above 14 bytes"
@@ -47,13 +47,13 @@ abbrev pub names_to : List ℕ → ℕ → ℕ → List ℕ
 names_to t i c = take (c - i) (drop i t)
 
 -- the header whose comma is at c, which is the text's end where there is none
-abbrev pub header_to : List ℕ → ℕ → ℕ → Header
+abbrev pub header_to : List ℕ → ℕ → ℕ → Result ℕ TextRefusal
 header_to t i c =
-    when leb (length t) c then Malformed
-    else when not (right_names (names_in (names_to t i c))) then Malformed
-    else when not (line_ends t (run_end C.Blank t (c + 1))) then Malformed
-    else when long_alias (names_in (names_to t i c)) then LongAlias
-    else Right c
+    when leb (length t) c then Err Malformed
+    else when not (right_names (names_in (names_to t i c))) then Err Malformed
+    else when not (line_ends t (run_end C.Blank t (c + 1))) then Err Malformed
+    else when long_alias (names_in (names_to t i c)) then Err Limit
+    else Ok c
 
-unfoldable pub header_at : List ℕ → ℕ → Header
+unfoldable pub header_at : List ℕ → ℕ → Result ℕ TextRefusal
 header_at t i = header_to t i (run_end C.Header t i)

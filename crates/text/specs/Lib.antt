@@ -3,6 +3,7 @@ pub mod Strings
 pub mod Numbers
 pub mod Lines
 pub mod Fields
+pub mod Refusals
 pub mod Heading
 pub mod Describing
 pub mod Building

@@ -1,6 +1,7 @@
 -- Strings of source text (document 01: Source text).
 -- Assumes nothing.
 use Rattle.std.specs.Prelude.{Bool, ◌||◌, List, [], ◌∷◌, ◌++◌, ℕ, ◌+◌, ◌-◌, ◌*◌, ◌%◌, eqb, leb, ltb, length, get_or}
+use Rattle.std.specs.Prelude.{Option, Some, None}
 use Prim.Native.Char.{code}
 use Rattle.base.specs.If.{when◌then◌else◌}
 use Rattle.base.specs.Loop.{Turn, go, stop, loop}
@@ -8,7 +9,6 @@ use Rattle.text.specs.declared.ByteClass.TheVariants as C
 use Rattle.text.specs.declared.StringItem.{StringItem}
 use Rattle.text.specs.declared.StringItem.TheVariants.{End, Byte, Removed, Malformed}
 use Rattle.text.specs.declared.Content.{Content}
-use Rattle.text.specs.declared.Content.TheVariants as W
 use Rattle.text.specs.Bytes.{◌is◌, between, is_blank, digit_of, run_end}
 
 -- the value beside a byte in a list of pairs, 0 where it isn't there
@@ -113,7 +113,11 @@ unfoldable pub read_bytes : Read → List ℕ
 read_bytes (whole s k) = s
 read_bytes malformed = []
 
+-- a string's number of bytes, and the place of its comma
+abbrev pub content : ℕ → ℕ → Option Content
+content n k = Some (record { length = n; comma = k })
+
 -- the same with the bytes counted only
-unfoldable pub content_of : Read → Content
-content_of (whole s k) = W.Whole (length s) k
-content_of malformed = W.Malformed
+unfoldable pub content_of : Read → Option Content
+content_of (whole s k) = content (length s) k
+content_of malformed = None

@@ -1,6 +1,9 @@
 // Source text's numbers and types: what the parts of the compiler answer. The meaning of all of them is in specs/.
 #![tactic(auto)]
 
+ghost use Rattle.std.specs.Prelude.{◌≡◌};
+ghost use Rattle.text.specs.declared.CompileRefusal.TheVariants.{Refused};
+
 use edition::Place;
 
 // A text's most bytes.
@@ -58,10 +61,11 @@ pub enum StringItem {
 
 // A string in the text.
 #[derive(Clone, Copy)]
-pub enum Content {
-    // how many bytes it stands for, and the place of its comma
-    Whole(usize, usize),
-    Malformed,
+pub struct Content {
+    // how many bytes it stands for
+    pub length: usize,
+    // the place of its comma
+    pub comma: usize,
 }
 
 // What stands where a line or a field may begin, past blank lines and comment lines.
@@ -89,39 +93,25 @@ pub enum FieldForm {
 
 // A form in the text.
 #[derive(Clone, Copy)]
-pub enum Formed {
-    // the form, and the place past it
-    Right(FieldForm, usize),
-    Malformed,
+pub struct Formed {
+    pub form: FieldForm,
+    // the place past it
+    pub next: usize,
 }
 
 // A field.
 #[derive(Clone, Copy)]
-pub enum Field {
-    Right {
-        dropped: bool,
-        // the name's place and the place past it
-        name: usize,
-        end: usize,
-        form: FieldForm,
-        // the place past the comma
-        next: usize,
-    },
-    Malformed,
+pub struct Field {
+    pub dropped: bool,
+    // the name's place and the place past it
+    pub name: usize,
+    pub end: usize,
+    pub form: FieldForm,
+    // the place past the comma
+    pub next: usize,
 }
 
-// A header.
-#[derive(Clone, Copy)]
-pub enum Header {
-    // the place of its comma
-    Right(usize),
-    // 10
-    Malformed,
-    // 13: an alias above 14 bytes
-    LongAlias,
-}
-
-// Why a text is refused at a place: document 01's numbers 10, 11 and 13, document 02's 18 to 20.
+// Why a text is refused: document 01's numbers 10, 11 and 13, document 02's 18 to 20.
 #[derive(Clone, Copy)]
 pub enum TextRefusal {
     // 10: malformed text
@@ -139,7 +129,7 @@ pub enum TextRefusal {
 }
 
 // What a field says, as the writer takes it: a capability's place, its kind (0 absent, 1 present, 2 cancelled) and
-// its content.
+// its content. The kind is a number, since the arrays of states that C lends hold numbers.
 #[derive(Clone, Copy)]
 pub enum Said {
     // the field is dropped
@@ -152,28 +142,40 @@ pub enum Said {
     Use(usize, usize),
 }
 
-// What judging a field answers.
+// What a field says, and the place past it.
 #[derive(Clone, Copy)]
-pub enum FieldJudged {
-    // what it says, and the place past it
-    Said(Said, usize),
-    Refused(TextRefusal),
+pub struct Judged {
+    pub said: Said,
+    pub next: usize,
 }
 
-// What compiling answers.
+// A text's refusal, and its place: the field's first byte; a header's own for its refusals and its names' total, 0 for
+// the text's first header and for the wanted name.
 #[derive(Clone, Copy)]
-pub enum Compiled {
-    // the file's length
-    File(usize),
+pub struct TextRefused {
+    pub why: TextRefusal,
+    pub at: usize,
+}
+
+// Why nothing is compiled. A file that is compiled is answered by its length.
+#[derive(Clone, Copy)]
+pub enum CompileRefusal {
     // 3: the edition is too large
     Edition,
     // 1: the text is longer than 16,384 bytes
     Length,
-    // 10, 11, 13 and 18 to 20, with the field's first byte; a header's own for its refusals and its names' total, 0 for
-    // the text's first header and for the wanted name
-    Refused(TextRefusal, usize),
+    // 10, 11, 13 and 18 to 20
+    Refused(TextRefused),
     // 9: the file would be longer than 4,096 bytes
     Size,
     // 8: the buffer is too short; the file's length
     Room(usize),
+}
+
+impl From<TextRefused> for CompileRefusal {
+    ghost from_gives = { λ refused why. why ≡ Refused refused };
+
+    fn from(refused: TextRefused) -> CompileRefusal {
+        CompileRefusal::Refused(refused)
+    }
 }

@@ -1,14 +1,13 @@
 -- The descriptions of a text in two editions: those that one reads, a larger one reads too.
 -- Assumes nothing.
-use Rattle.std.specs.Prelude.{◌≡◌, refl, List, ◌∷◌}
+use Rattle.std.specs.Prelude.{◌≡◌, refl, List, ◌∷◌, Result, Ok, Err}
 use Rattle.std.proofs.Common.{ap, ◌∙◌, subst}
 use Prim.Native.Nat.{ℕ, zero, suc, ◌+◌}
 use Rattle.base.specs.Answer.{Answer, refused, gives, map_answer}
 use Rattle.base.specs.Tabulate.{Each}
 use Rattle.edition.specs.declared.Edition.{Edition}
 use Rattle.edition.specs.Edition.{NoMore}
-use Rattle.text.specs.declared.Header.{Header}
-use Rattle.text.specs.declared.Header.TheVariants as H
+use Rattle.text.specs.declared.TextRefusal.{TextRefusal}
 use Rattle.text.specs.declared.Line.{Line}
 use Rattle.text.specs.declared.Line.TheVariants.{End, Column, Indented}
 use Rattle.text.specs.Lines.{line_at}
@@ -51,15 +50,13 @@ module _ (e E : Edition) (m : NoMore e E) (t : List ℕ) where
               subst (Each (KnownIn e)) (given_is z) (sayings_known e t i x q, b.1),
             )
 
-    headed_too : (p i : ℕ) (c : Header) → GivesToo e (headed e t f p i c) (headed E t g p i c)
-    headed_too p i (H.Right c) ds w = fields_too p (names_to t i c) (c + 1) (sayings_from e t (c + 1)) refl ds w
-    headed_too p i H.Malformed ds w = refused_gives w
-    headed_too p i H.LongAlias ds w = refused_gives w
+    headed_too : (p i : ℕ) (c : Result ℕ TextRefusal) → GivesToo e (headed e t f p i c) (headed E t g p i c)
+    headed_too p i (Ok c) ds w = fields_too p (names_to t i c) (c + 1) (sayings_from e t (c + 1)) refl ds w
+    headed_too p i (Err r) ds w = refused_gives w
 
-  none_too : (p : ℕ) (c : Header) → GivesToo e (one_too_many p c) (one_too_many p c)
-  none_too p (H.Right c) ds w = refused_gives w
-  none_too p H.Malformed ds w = refused_gives w
-  none_too p H.LongAlias ds w = refused_gives w
+  none_too : (p : ℕ) (c : Result ℕ TextRefusal) → GivesToo e (one_too_many p c) (one_too_many p c)
+  none_too p (Ok c) ds w = refused_gives w
+  none_too p (Err r) ds w = refused_gives w
 
   descriptions_too : (more p i : ℕ) → GivesToo e (descriptions_at e t more p i) (descriptions_at E t more p i)
   unfolding descriptions_at

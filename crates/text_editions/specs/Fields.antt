@@ -1,6 +1,7 @@
 -- The fields of a text in two editions: what they say in one, they say in a larger one.
 -- Assumes nothing.
 use Rattle.std.specs.Prelude.{◌≡◌, Bool, List, [], ◌∷◌, ℕ, leb}
+use Rattle.std.specs.Prelude.{Option, Some, None}
 use Rattle.std.proofs.Common.{sym, ◌∙◌, subst}
 use Rattle.std.proofs.Math.Path.{ap}
 use Rattle.std.proofs.Math.Bool.{true, false}
@@ -34,13 +35,13 @@ known_if : {A : Type 0} (e : Edition) (a : Answer A) (say : A → Saying) → ((
 known_if e (refused n v) say k s w = refused_gives w
 known_if e (gives x) say k s w = subst (Known e) (given_is w) (k x)
 
-found_known : (e : Edition) (t : List ℕ) (p : ℕ) (f : FieldForm) (c : Found) → FoundIn e c → (s : Saying)
+found_known : (e : Edition) (t : List ℕ) (p : ℕ) (f : FieldForm) (c : Option Found) → FoundIn e c → (s : Saying)
     → saying_of t p f c ≡ gives s → Known e s
 unfolding saying_of
-found_known e t p f (N.Boolean q) k s w = known_if e (boolean_by p f) (boolean q) (λ x. k) s w
-found_known e t p f (N.Number q) k s w = known_if e (number_by p f) (number q) (λ x. k) s w
-found_known e t p f (N.String q) k s w = known_if e (string_by t p f) (string q) (λ x. k) s w
-found_known e t p f N.Unknown k s w = refused_gives w
+found_known e t p f (Some (N.Boolean q)) k s w = known_if e (boolean_by p f) (boolean q) (λ x. k) s w
+found_known e t p f (Some (N.Number q)) k s w = known_if e (number_by p f) (number q) (λ x. k) s w
+found_known e t p f (Some (N.String q)) k s w = known_if e (string_by t p f) (string q) (λ x. k) s w
+found_known e t p f None k s w = refused_gives w
 
 -- a use is about no place
 use_known : (e : Edition) (t : List ℕ) (p : ℕ) (f : FieldForm) (s : Saying) → use_by t p f ≡ gives s → Known e s

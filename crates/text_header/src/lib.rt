@@ -7,13 +7,14 @@ ghost use Rattle.text.specs.declared.ByteClass.TheVariants as C;
 ghost use Rattle.text.specs.Bytes.{run_end};
 ghost use Rattle.text.specs.Heading.{names_in, made_of, right_names, long_alias, line_ends, header_at};
 
-use text::{ALIAS_MOST, ByteClass, Header};
+use text::{ALIAS_MOST, ByteClass, TextRefusal};
 
 // The names are two at least, and each is right.
 fn names_right(names: &[u8]) -> bool
     ensures { result ≡ right_names (names_in names.now) }
 {
     let mut several = false;
+    // a cursor that moves by a name's length: no range counts it
     let mut at = 0;
     loop {
         let end = text_bytes::run_end(names, ByteClass::Alias, at);
@@ -44,15 +45,13 @@ fn alias_long(names: &[u8]) -> bool
     ensures { result ≡ long_alias (names_in names.now) }
 {
     let mut start = 0;
-    let mut i = 0;
-    while i < names.len() {
-        if names[i] == b'|' {
+    for (i, b) in names.iter().enumerate() {
+        if *b == b'|' {
             if ALIAS_MOST < i - start {
                 return true;
             }
             start = i + 1;
         }
-        i += 1;
     }
     false
 }
@@ -69,22 +68,22 @@ fn line_ends(text: &[u8], at: usize) -> bool
 }
 
 // The header that starts at a place.
-pub fn header_at(text: &[u8], at: usize) -> Header
+pub fn header_at(text: &[u8], at: usize) -> Result<usize, TextRefusal>
     requires { at ≤ length text.now }
     ensures { result ≡ header_at text.now at }
 {
     let comma = text_bytes::run_end(text, ByteClass::Header, at);
     if text.len() <= comma {
-        return Header::Malformed;
+        return Err(TextRefusal::Malformed);
     }
     if !names_right(&text[at..comma]) {
-        return Header::Malformed;
+        return Err(TextRefusal::Malformed);
     }
     if !line_ends(text, comma + 1) {
-        return Header::Malformed;
+        return Err(TextRefusal::Malformed);
     }
     if alias_long(&text[at..comma]) {
-        return Header::LongAlias;
+        return Err(TextRefusal::Limit);
     }
-    Header::Right(comma)
+    Ok(comma)
 }

@@ -28,6 +28,7 @@ pub fn count(s: &[u8]) -> usize
     ensures { result ≡ count_of prints_text s.now }
 {
     let mut n: usize = 0;
+    // a cursor that moves by an item's size: no range counts it
     let mut i: usize = 0;
     while i < s.len() {
         n += texts_at(s, i);

@@ -2,7 +2,7 @@
 -- Assumes nothing.
 use Rattle.std.proofs.Math.Path.{◌≡◌, refl, sym, ap}
 use Rattle.std.proofs.Common.{◌∙◌, subst}
-use Rattle.std.specs.Prelude.{Bool, ◌&&◌, ◌||◌, List, ℕ, ◌+◌, ◌-◌, ◌≤◌, ◌<◌, get_or}
+use Rattle.std.specs.Prelude.{Bool, ◌&&◌, ◌||◌, List, ℕ, ◌+◌, ◌-◌, ◌≤◌, ◌<◌, get_or, Option, Some, None}
 use Rattle.std.proofs.Math.Bool.{true, false}
 use native.Mathlib.Omega.{arith}
 use Rattle.std.proofs.Math.Dec.{eqb, leb}
@@ -15,14 +15,12 @@ use Rattle.text.specs.declared.ByteClass.TheVariants as C
 use Rattle.text.specs.declared.FieldForm.{FieldForm}
 use Rattle.text.specs.declared.FieldForm.TheVariants as F
 use Rattle.text.specs.declared.Formed.{Formed}
-use Rattle.text.specs.declared.Formed.TheVariants as G
 use Rattle.text.specs.declared.Field.{Field}
-use Rattle.text.specs.declared.Field.TheVariants.{Right, Malformed}
 use Rattle.text.specs.Bytes.{run_end, base_of}
 use Rattle.text.specs.Strings.{Read, whole, malformed, read_at, read_bytes, content_of}
 use Rattle.entry.specs.Limits.{number_most}
-use Rattle.text.specs.Numbers.{digits_most, with_digits, number_form, digits_in, digits_at, number_at}
-use Rattle.text.specs.Fields.{string_form, form_at, closed, named_at, field_at}
+use Rattle.text.specs.Numbers.{digits_most, with_digits, number_form, formed, digits_in, digits_at, number_at}
+use Rattle.text.specs.Fields.{string_form, form_at, field, closed, named_at, field_at}
 use Rattle.text_laws.specs.Runs.{run_ge, within}
 use Rattle.text_laws.specs.Reads.{read_after}
 
@@ -41,9 +39,9 @@ FormRight t F.LargeNumber = Unit {0}
 FormRight t (F.String s n) = (read_at t s ≡ malformed → ⊥) × (n ≡ length (read_bytes (read_at t s)))
 
 -- and the form's end is not before its place
-abbrev FormedRight : List ℕ → ℕ → Formed → Type 0
-FormedRight t i (G.Right f k) = (i ≤ k) × FormRight t f
-FormedRight t i G.Malformed = Unit {0}
+abbrev FormedRight : List ℕ → ℕ → Option Formed → Type 0
+FormedRight t i (Some g) = (i ≤ g.next) × FormRight t g.form
+FormedRight t i None = Unit {0}
 
 module _ (t : List ℕ) where
   number_right : (v n : ℕ) → FormRight t (number_form v n)
@@ -98,24 +96,24 @@ module _ (t : List ℕ) where
 -- ---- the field that a name from i to e starts
 
 module _ (t : List ℕ) (dropped : Bool) (i e : ℕ) (q : e ≡ run_end C.Name t i) where
-  pub named_none : e ≡ i → Malformed ≡ named_at t dropped i
+  pub named_none : e ≡ i → None ≡ named_at t dropped i
   unfolding named_at
   named_none h = rw (← q, eq-eqb e i h)
 
   module _ (n : e ≡ i → ⊥) where
-    named_by : (g : Formed) → g ≡ form_at t e → closed t dropped i e g ≡ named_at t dropped i
+    named_by : (g : Option Formed) → g ≡ form_at t e → closed t dropped i e g ≡ named_at t dropped i
     unfolding named_at
     named_by g h = rw (← q, ne_eqb e i n, h)
 
-    pub named_wrong : G.Malformed ≡ form_at t e → Malformed ≡ named_at t dropped i
-    named_wrong h = named_by G.Malformed h
+    pub named_wrong : None ≡ form_at t e → None ≡ named_at t dropped i
+    named_wrong h = named_by None h
 
-    module _ (f : FieldForm) (k : ℕ) (h : G.Right f k ≡ form_at t e) where
-      pub named_open : (get_or t k 0 ≡ 44 → ⊥) → Malformed ≡ named_at t dropped i
-      named_open b = rw (ne_eqb (get_or t k 0) 44 b) at (named_by (G.Right f k) h)
+    module _ (f : FieldForm) (k : ℕ) (h : formed f k ≡ form_at t e) where
+      pub named_open : (get_or t k 0 ≡ 44 → ⊥) → None ≡ named_at t dropped i
+      named_open b = rw (ne_eqb (get_or t k 0) 44 b) at (named_by (formed f k) h)
 
-      pub named_closed : get_or t k 0 ≡ 44 → Right dropped i e f (k + 1) ≡ named_at t dropped i
-      named_closed b = rw (eq-eqb (get_or t k 0) 44 b) at (named_by (G.Right f k) h)
+      pub named_closed : get_or t k 0 ≡ 44 → field dropped i e f (k + 1) ≡ named_at t dropped i
+      named_closed b = rw (eq-eqb (get_or t k 0) 44 b) at (named_by (formed f k) h)
 
 -- ---- what holds of every field that is right
 
@@ -126,19 +124,19 @@ pub record FieldAfter (t : List ℕ) (p i k next : ℕ) : Type 0 where
   pub form : k < next
   pub ends : next ≤ length t
 
-abbrev FieldRight : List ℕ → ℕ → Field → Type 0
-FieldRight t p (Right dropped i k f next) = FieldAfter t p i k next × FormRight t f
-FieldRight t p Malformed = Unit {0}
+abbrev FieldRight : List ℕ → ℕ → Option Field → Type 0
+FieldRight t p (Some f) = FieldAfter t p f.name f.end f.next × FormRight t f.form
+FieldRight t p None = Unit {0}
 
 module _ (t : List ℕ) (p : ℕ) where
-  closed_right : (dropped : Bool) (i e : ℕ) (g : Formed) → p ≤ i → i < e → FormedRight t e g
+  closed_right : (dropped : Bool) (i e : ℕ) (g : Option Formed) → p ≤ i → i < e → FormedRight t e g
       → FieldRight t p (closed t dropped i e g)
-  closed_right dropped i e (G.Right f k) l m r =
-      if_both (FieldRight t p) (eqb (get_or t k 0) 44)
-      (λ c. let w = within (λ b. eqb b 44) refl t k c
+  closed_right dropped i e (Some g) l m r =
+      if_both (FieldRight t p) (eqb (get_or t g.next 0) 44)
+      (λ c. let w = within (λ b. eqb b 44) refl t g.next c
       in (record { name = l; some = m; form = omega arith; ends = omega arith }, r.1))
       (λ _. tt)
-  closed_right dropped i e G.Malformed l m r = tt
+  closed_right dropped i e None l m r = tt
 
   named_right : (dropped : Bool) (i : ℕ) → p ≤ i → FieldRight t p (named_at t dropped i)
   unfolding named_at
@@ -157,14 +155,14 @@ module _ (t : List ℕ) (p : ℕ) where
 
   -- ---- of a field at p
 
-  pub field_after : (dropped : Bool) (i k : ℕ) (f : FieldForm) (next : ℕ) → field_at t p ≡ Right dropped i k f next
+  pub field_after : (dropped : Bool) (i k : ℕ) (f : FieldForm) (next : ℕ) → field_at t p ≡ field dropped i k f next
       → FieldAfter t p i k next
   field_after dropped i k f next e = (subst (FieldRight t p) e field_right).0
 
-  pub field_string : (dropped : Bool) (i k s n next : ℕ) → field_at t p ≡ Right dropped i k (F.String s n) next
+  pub field_string : (dropped : Bool) (i k s n next : ℕ) → field_at t p ≡ field dropped i k (F.String s n) next
       → (read_at t s ≡ malformed → ⊥) × (n ≡ length (read_bytes (read_at t s)))
   field_string dropped i k s n next e = (subst (FieldRight t p) e field_right).1
 
-  pub field_number : (dropped : Bool) (i k v next : ℕ) → field_at t p ≡ Right dropped i k (F.Number v) next
+  pub field_number : (dropped : Bool) (i k v next : ℕ) → field_at t p ≡ field dropped i k (F.Number v) next
       → v ≤ number_most
   field_number dropped i k v next e = (subst (FieldRight t p) e field_right).1

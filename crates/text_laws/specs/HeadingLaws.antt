@@ -1,8 +1,8 @@
 -- The names of a header.
 -- Assumes nothing.
 use Rattle.std.specs.Prelude.{◌≡◌, refl, true, false, ◌&&◌, ◌||◌, List, [], ◌∷◌, eqb, leb, ltb}
-use Rattle.std.specs.Prelude.{length, get_or, take, drop}
-use Rattle.std.proofs.Common.{sym, ◌∙◌, subst, not-suc-le-zero, le_of_suc-le-suc, arith}
+use Rattle.std.specs.Prelude.{length, get_or, take, drop, Result, Ok, Err, ◌⊎◌}
+use Rattle.std.proofs.Common.{sym, ◌∙◌, subst, inl, inr, not-suc-le-zero, le_of_suc-le-suc, arith}
 use Rattle.std.proofs.Common.{length-drop, get_or-take, get_or-drop, drop-drop, length-take-le}
 use Rattle.std.proofs.Math.Path.{ap}
 use Rattle.std.proofs.Math.Bool.{Bool, not}
@@ -18,8 +18,8 @@ use Rattle.base.proofs.TabulateLaws.{each_of}
 use Rattle.word.specs.Nul.{NotNul, NoNul}
 use Rattle.text.specs.declared.ByteClass.{ByteClass}
 use Rattle.text.specs.declared.ByteClass.TheVariants as C
-use Rattle.text.specs.declared.Header.{Header}
-use Rattle.text.specs.declared.Header.TheVariants.{Right, Malformed, LongAlias}
+use Rattle.text.specs.declared.TextRefusal.{TextRefusal}
+use Rattle.text.specs.declared.TextRefusal.TheVariants.{Malformed, Limit}
 use Rattle.text.specs.Bytes.{is_in, is_alias, is_last_name, run_end}
 use Rattle.names.specs.Names.{on_first, parted}
 use Rattle.text.specs.Heading.{alias_most, names_in, made_of, right_names, long_alias, line_ends, names_to, header_at}
@@ -418,26 +418,26 @@ names_some (b ∷ n) h = omega arith
 -- ---- the header
 
 module _ (t : List ℕ) (i c : ℕ) (q : c ≡ run_end C.Header t i) where
-  pub header_past : length t ≤ c → Malformed ≡ header_at t i
+  pub header_past : length t ≤ c → Err Malformed ≡ header_at t i
   unfolding header_at
   header_past h = rw (← q, le-leb (length t) c h)
 
   module _ (l : c < length t) where
-    pub header_wrong : right_names (names_in (names_to t i c)) ≡ false → Malformed ≡ header_at t i
+    pub header_wrong : right_names (names_in (names_to t i c)) ≡ false → Err Malformed ≡ header_at t i
     unfolding header_at
     header_wrong h = rw (← q, lt-leb (length t) c l, h)
 
     module _ (n : right_names (names_in (names_to t i c)) ≡ true) where
-      pub header_more : line_ends t (run_end C.Blank t (c + 1)) ≡ false → Malformed ≡ header_at t i
+      pub header_more : line_ends t (run_end C.Blank t (c + 1)) ≡ false → Err Malformed ≡ header_at t i
       unfolding header_at
       header_more h = rw (← q, lt-leb (length t) c l, n, h)
 
       module _ (e : line_ends t (run_end C.Blank t (c + 1)) ≡ true) where
-        pub header_long : long_alias (names_in (names_to t i c)) ≡ true → LongAlias ≡ header_at t i
+        pub header_long : long_alias (names_in (names_to t i c)) ≡ true → Err Limit ≡ header_at t i
         unfolding header_at
         header_long h = rw (← q, lt-leb (length t) c l, n, e, h)
 
-        pub header_is : long_alias (names_in (names_to t i c)) ≡ false → Right c ≡ header_at t i
+        pub header_is : long_alias (names_in (names_to t i c)) ≡ false → Ok c ≡ header_at t i
         unfolding header_at
         header_is h = rw (← q, lt-leb (length t) c l, n, e, h)
 
@@ -447,7 +447,7 @@ pub record Headed (t : List ℕ) (i c : ℕ) : Type 0 where
   pub within : c < length t
   pub names : right_names (names_in (names_to t i c)) ≡ true
 
-pub header_right : (t : List ℕ) (i c : ℕ) → header_at t i ≡ Right c → Headed t i c
+pub header_right : (t : List ℕ) (i c : ℕ) → header_at t i ≡ Ok c → Headed t i c
 unfolding header_at
 header_right t i c e =
     by_tests (leb (length t) r) refl (right_names (names_in (names_to t i r))) refl
@@ -458,14 +458,14 @@ header_right t i c e =
     r : ℕ
     r = run_end C.Header t i
 
-    clash : Malformed ≡ Right c → Headed t i c
+    clash : ◌≡◌ {A = Result ℕ TextRefusal} (Err Malformed) (Ok c) → Headed t i c
     clash q = absurd (let z : ◌≡◌ {A = ℕ} 0 1 = cc in (let y : ⊥ = omega arith in y))
 
     by_tests : (past : Bool) → leb (length t) r ≡ past
         → (names : Bool) → right_names (names_in (names_to t i r)) ≡ names
         → (ends long : Bool)
-        → (when past then Malformed else when not names then Malformed else when not ends then Malformed
-        else when long then LongAlias else Right r) ≡ Right c
+        → (when past then Err Malformed else when not names then Err Malformed else when not ends then Err Malformed
+        else when long then Err Limit else Ok r) ≡ Ok c
         → Headed t i c
     by_tests true p names q ends long h = clash h
     by_tests false p false q ends long h = clash h
@@ -474,3 +474,26 @@ header_right t i c e =
     by_tests false p true q true false h =
         let k : r ≡ c = cc in
         subst (Headed t i) k (record { place = run_ge C.Header t i; within = leb-false (length t) r p; names = q })
+
+-- a header's refusals
+pub header_refusal : (t : List ℕ) (i : ℕ) (r : TextRefusal) → header_at t i ≡ Err r → (r ≡ Malformed) ⊎ (r ≡ Limit)
+unfolding header_at
+header_refusal t i r e =
+    by_tests (leb (length t) c) (not (right_names (names_in (names_to t i c))))
+    (not (line_ends t (run_end C.Blank t (c + 1)))) (long_alias (names_in (names_to t i c))) e
+  where
+    c : ℕ
+    c = run_end C.Header t i
+
+    refusal_is : {s : TextRefusal} → ◌≡◌ {A = Result ℕ TextRefusal} (Err s) (Err r) → r ≡ s
+    refusal_is q = cc
+
+    by_tests : (past wrong more long : Bool)
+        → (when past then Err Malformed else when wrong then Err Malformed else when more then Err Malformed
+        else when long then Err Limit else Ok c) ≡ Err r
+        → (r ≡ Malformed) ⊎ (r ≡ Limit)
+    by_tests true wrong more long h = inl (refusal_is h)
+    by_tests false true more long h = inl (refusal_is h)
+    by_tests false false true long h = inl (refusal_is h)
+    by_tests false false false true h = inr (refusal_is h)
+    by_tests false false false false h = absurd (let z : ◌≡◌ {A = ℕ} 0 1 = cc in (let y : ⊥ = omega arith in y))

@@ -1,6 +1,6 @@
 -- One field: what it is where it says something, and that what it says has a written form.
 -- Assumes nothing.
-use Rattle.std.specs.Prelude.{◌≡◌, refl, Bool, List, [], ◌∷◌, ℕ, ◌-◌, ◌≤◌, leb, take, drop}
+use Rattle.std.specs.Prelude.{◌≡◌, refl, Bool, List, [], ◌∷◌, ℕ, ◌-◌, ◌≤◌, leb, take, drop, Option, Some, None}
 use Rattle.std.proofs.Common.{ap, ◌∙◌, arith}
 use Rattle.std.proofs.Math.Path.{subst}
 use Rattle.std.proofs.Math.Bool.{true, false}
@@ -18,9 +18,8 @@ use Rattle.names.specs.Lookup.{same_bytes, looking_up}
 use Rattle.text.specs.declared.FieldForm.{FieldForm}
 use Rattle.text.specs.declared.FieldForm.TheVariants as F
 use Rattle.text.specs.declared.Field.{Field}
-use Rattle.text.specs.declared.Field.TheVariants as G
 use Rattle.text.specs.Strings.{read_at, read_bytes}
-use Rattle.text.specs.Fields.{field_at}
+use Rattle.text.specs.Fields.{field, field_at}
 use Rattle.text.specs.Describing.{Saying, nothing, boolean, number, string, uses, boolean_by, number_by, string_by}
 use Rattle.text.specs.Describing.{saying_of, use_by, named_saying, Judging, judging_of, judging}
 use Rattle.text_laws.specs.Reads.{read_free}
@@ -39,7 +38,7 @@ pub record JudgedField (e : Edition) (t : List ℕ) (p : ℕ) (j : Judging) : Ty
   pub name : ℕ
   pub past : ℕ
   pub form : FieldForm
-  pub field : field_at t p ≡ G.Right dropped name past form j.next
+  pub field : field_at t p ≡ field dropped name past form j.next
   pub says : (when dropped then gives nothing else named_saying e t p (take (past - name) (drop name t)) form)
       ≡ gives j.saying
 
@@ -47,7 +46,7 @@ pub judged_field : (e : Edition) (t : List ℕ) (p : ℕ) (j : Judging) → judg
 unfolding judging
 judged_field e t p j w = by_field (field_at t p) refl w
   where
-    by_saying : (dropped : Bool) (i k : ℕ) (f : FieldForm) (next : ℕ) → field_at t p ≡ G.Right dropped i k f next
+    by_saying : (dropped : Bool) (i k : ℕ) (f : FieldForm) (next : ℕ) → field_at t p ≡ field dropped i k f next
         → (a : Answer Saying)
         → (when dropped then gives nothing else named_saying e t p (take (k - i) (drop i t)) f) ≡ a
         → map_answer (λ (s : Saying). record { saying = s; next = next }) a ≡ gives j → JudgedField e t p j
@@ -59,15 +58,16 @@ judged_field e t p j w = by_field (field_at t p) refl w
           name = i;
           past = k;
           form = f;
-          field = q ∙ ap (λ (x : Judging). G.Right dropped i k f x.next) m;
+          field = q ∙ ap (λ (x : Judging). field dropped i k f x.next) m;
           says = u ∙ ap (λ (x : Judging). gives x.saying) m;
         }
 
-    by_field : (f : Field) → field_at t p ≡ f → judging_of e t p f ≡ gives j → JudgedField e t p j
-    by_field (G.Right dropped i k f next) q r =
-        by_saying dropped i k f next q
-        (when dropped then gives nothing else named_saying e t p (take (k - i) (drop i t)) f) refl r
-    by_field G.Malformed q r = refused_gives r
+    by_field : (f : Option Field) → field_at t p ≡ f → judging_of e t p f ≡ gives j → JudgedField e t p j
+    by_field (Some f) q r =
+        by_saying f.dropped f.name f.end f.form f.next q
+        (when f.dropped then gives nothing else named_saying e t p (take (f.end - f.name) (drop f.name t)) f.form)
+        refl r
+    by_field None q r = refused_gives r
 
 -- what a field says has a written form
 abbrev pub Fits : Saying → Type 0
@@ -116,12 +116,12 @@ module _ (t : List ℕ) (p : ℕ) where
       by_test true u = subst Fits (given_is u) (read_free t i)
       by_test false u = refused_gives u
 
-  found_fits : (f : FieldForm) → FormFits f → (c : Found) (s : Saying) → saying_of t p f c ≡ gives s → Fits s
+  found_fits : (f : FieldForm) → FormFits f → (c : Option Found) (s : Saying) → saying_of t p f c ≡ gives s → Fits s
   unfolding saying_of
-  found_fits f h (N.Boolean q) s w = boolean_fits q f s w
-  found_fits f h (N.Number q) s w = number_fits_lem q f h s w
-  found_fits f h (N.String q) s w = string_fits q f s w
-  found_fits f h N.Unknown s w = refused_gives w
+  found_fits f h (Some (N.Boolean q)) s w = boolean_fits q f s w
+  found_fits f h (Some (N.Number q)) s w = number_fits_lem q f h s w
+  found_fits f h (Some (N.String q)) s w = string_fits q f s w
+  found_fits f h None s w = refused_gives w
 
   use_fits : (f : FieldForm) (s : Saying) → use_by t p f ≡ gives s → Fits s
   use_fits F.Boolean s w = refused_gives w
@@ -146,7 +146,7 @@ module _ (t : List ℕ) (p : ℕ) where
       by_use false u = found_fits f h (looking_up e name) s u
 
 form_fits : (t : List ℕ) (p : ℕ) (dropped : Bool) (i k : ℕ) (f : FieldForm) (next : ℕ)
-    → field_at t p ≡ G.Right dropped i k f next → FormFits f
+    → field_at t p ≡ field dropped i k f next → FormFits f
 unfolding FormFits
 form_fits t p dropped i k F.Boolean next w = tt
 form_fits t p dropped i k F.Cancelled next w = tt

@@ -1,6 +1,6 @@
 -- Digits and their value.
 -- Assumes nothing.
-use Rattle.std.specs.Prelude.{◌≡◌, Bool, ◌&&◌, List, leb, length, get_or}
+use Rattle.std.specs.Prelude.{◌≡◌, Bool, ◌&&◌, List, leb, length, get_or, None}
 use Rattle.std.proofs.Math.Path.{refl, ap}
 use Rattle.std.proofs.Common.{sym, ◌∙◌, mul-le-mul_left, mul-le-mul, mul-one}
 use Rattle.std.proofs.Math.Bool.{true, false}
@@ -13,12 +13,10 @@ use Rattle.base.proofs.IfLaws.{below_or}
 use Rattle.text.specs.declared.NumberBase.{NumberBase}
 use Rattle.text.specs.declared.NumberBase.TheVariants.{Octal, Decimal, Hexadecimal}
 use Rattle.text.specs.declared.ByteClass.TheVariants as C
-use Rattle.text.specs.declared.FieldForm.{FieldForm}
 use Rattle.text.specs.declared.FieldForm.TheVariants as F
-use Rattle.text.specs.declared.Formed.TheVariants.{Right, Malformed}
 use Rattle.text.specs.Bytes.{digit_of, base_of, run_end}
 use Rattle.entry.specs.Limits.{number_most}
-use Rattle.text.specs.Numbers.{digits_most, with_digits, number_form, digits_in, digits_at}
+use Rattle.text.specs.Numbers.{digits_most, with_digits, number_form, formed, digits_in, digits_at}
 use Rattle.text_laws.specs.Runs.{run_end_lem, run_ge, run_le}
 
 -- more digits give no less
@@ -77,7 +75,7 @@ module _ (base : NumberBase) (t : List ℕ) (i e : ℕ) (q : e ≡ run_end (C.Di
   pub digits_after : i ≤ e
   digits_after = rw q (run_ge (C.Digit base) t i)
 
-  pub digits_none : e ≡ i → Malformed ≡ digits_at base t i
+  pub digits_none : e ≡ i → None ≡ digits_at base t i
   unfolding digits_in
   digits_none h = rw (← q, eq-eqb e i h)
 
@@ -87,34 +85,29 @@ module _ (base : NumberBase) (t : List ℕ) (i e : ℕ) (q : e ≡ run_end (C.Di
         below_or i (length t) (λ l. rw q (run_le (C.Digit base) t i (omega arith)))
         (λ l. absurd (n (q ∙ run_end_lem (C.Digit base) t i l)))
 
-    digits_are : (f : FieldForm) → number_form (with_digits (base_of base) t i (e - i) 0) (e - i) ≡ f
-        → Right f e ≡ digits_at base t i
+    pub digits_some : formed (number_form (with_digits (base_of base) t i (e - i) 0) (e - i)) e ≡ digits_at base t i
     unfolding digits_in
-    digits_are f h = rw (← q, ne_eqb e i n, h)
+    digits_some = rw (← q, ne_eqb e i n)
 
-    pub digits_many : digits_most < e - i → Right F.LargeNumber e ≡ digits_at base t i
+-- ---- a number's form, by its value and the count of its digits
+
+module _ (v n : ℕ) where
+  pub form_many : digits_most < n → F.LargeNumber ≡ number_form v n
+  unfolding number_form
+  form_many l = rw (lt-leb n digits_most l) (by_test (leb v number_most))
+    where
+      by_test : (b : Bool) → F.LargeNumber ≡ (when b && false then F.Number v else F.LargeNumber)
+      by_test true = refl
+      by_test false = refl
+
+  -- w is the value, or one above the most where that is less
+  module _ (w : ℕ) (m : w ≡ min v (number_most + 1)) where
+    pub form_large : number_most < w → F.LargeNumber ≡ number_form v n
     unfolding number_form
-    digits_many l =
-        digits_are F.LargeNumber (rw (lt-leb (e - i) digits_most l)
-        (by_test (leb (with_digits (base_of base) t i (e - i) 0) number_most)))
-      where
-        by_test : (b : Bool) → (when b && false then F.Number (with_digits (base_of base) t i (e - i) 0)
-            else F.LargeNumber) ≡ F.LargeNumber
-        by_test true = refl
-        by_test false = refl
+    form_large h = rw (lt-leb v number_most (omega arith))
 
-    -- v is the value, or one above the most where that is less
-    module _ (v : ℕ)
-        (m : v ≡ min (with_digits (base_of base) t i (e - i) 0) (number_most + 1))
-        (l : e - i ≤ digits_most)
-      where
-        pub digits-large : number_most < v → Right F.LargeNumber e ≡ digits_at base t i
-        unfolding number_form
-        digits-large h =
-            digits_are F.LargeNumber (rw (lt-leb (with_digits (base_of base) t i (e - i) 0) number_most (omega arith)))
-
-        pub digits-small : v ≤ number_most → Right (F.Number v) e ≡ digits_at base t i
-        unfolding number_form
-        digits-small h =
-            let k : with_digits (base_of base) t i (e - i) 0 ≡ v = omega arith in
-            digits_are (F.Number v) (rw (k, le-leb v number_most h, le-leb (e - i) digits_most l))
+    pub form_small : n ≤ digits_most → w ≤ number_most → F.Number w ≡ number_form v n
+    unfolding number_form
+    form_small l h =
+        let k : v ≡ w = omega arith in
+        rw (k, le-leb w number_most h, le-leb n digits_most l)

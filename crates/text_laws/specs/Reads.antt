@@ -1,6 +1,6 @@
 -- Strings of source text: an item ends past its place, so reading ends; what reading gives.
 -- Assumes nothing.
-use Rattle.std.specs.Prelude.{◌≡◌, List, [], ◌∷◌, ◌++◌, ℕ, ◌+◌, ◌-◌, ◌*◌, ◌≤◌, ◌<◌, eqb, leb, ltb, length, get_or}
+use Rattle.std.specs.Prelude.{◌≡◌, List, [], ◌∷◌, ◌++◌, ℕ, ◌+◌, ◌-◌, ◌*◌, ◌≤◌, ◌<◌, eqb, leb, ltb, length, get_or, None}
 use Rattle.std.proofs.Math.Path.{refl, ap}
 use Rattle.std.proofs.Common.{sym, ◌∙◌, subst, append_assoc, append-nil, arith, le_refl, eq-eqb, length-append}
 use Rattle.std.proofs.Math.ListN.{get_or-eq_default}
@@ -10,14 +10,13 @@ use Rattle.base.proofs.LoopLaws.{loop_go, loop_stop, loop_ind}
 use Rattle.base.proofs.TabulateLaws.{each_append}
 use Rattle.word.specs.Nul.{NotNul, NoNul}
 use Rattle.text.specs.declared.ByteClass.TheVariants as C
-use Rattle.text.specs.declared.Content.TheVariants as W
 use Rattle.text.specs.declared.StringItem.{StringItem}
 use Rattle.text.specs.declared.StringItem.TheVariants.{End, Byte, Removed, Malformed}
 use Rattle.text.specs.Bytes.{between, is_blank, run_end}
 use Rattle.text.specs.Strings.{digit_at, letter_of, octal_of, escape_at, is_control, caret_at}
 use Rattle.text.specs.Strings.{line_end_at, string_item_at}
 use Rattle.text.specs.Strings.{stored_byte, Reading, Read, whole, malformed, read_turn, read_from, read_at, read_bytes}
-use Rattle.text.specs.Strings.{content_of}
+use Rattle.text.specs.Strings.{content, content_of}
 use Rattle.text_laws.specs.Runs.{run_ge}
 
 -- ---- items
@@ -268,12 +267,12 @@ module _ (t : List ℕ) (at i n : ℕ) (s : Scanned t at i n) where
   pub scanned_removed : (k : ℕ) → string_item_at t i ≡ Removed k → Scanned t at k n
   scanned_removed k e = (s.0, s.1, sym (read_removed t (record { at = i; bytes = s.0 }) k e) ∙ s.2)
 
-  pub scanned_end : string_item_at t i ≡ End → W.Whole n i ≡ content_of (read_at t at)
+  pub scanned_end : string_item_at t i ≡ End → content n i ≡ content_of (read_at t at)
   unfolding content_of
   scanned_end e =
-      ap (λ (m : ℕ). W.Whole m i) (sym s.1) ∙ ap content_of
+      ap (λ (m : ℕ). content m i) (sym s.1) ∙ ap content_of
       (sym (read_end t (record { at = i; bytes = s.0 }) e) ∙ s.2)
 
-  pub scanned_malformed : string_item_at t i ≡ Malformed → W.Malformed ≡ content_of (read_at t at)
+  pub scanned_malformed : string_item_at t i ≡ Malformed → None ≡ content_of (read_at t at)
   unfolding content_of
   scanned_malformed e = ap content_of (sym (read_malformed t (record { at = i; bytes = s.0 }) e) ∙ s.2)

@@ -4,6 +4,7 @@ use Rattle.std.specs.Prelude.{◌≡◌, Bool, true, false, not, List, ℕ, ◌+
 use Rattle.std.proofs.Common.{sym, ap, ◌∙◌}
 use Rattle.std.proofs.Math.Bool.{not-not}
 use native.Mathlib.Omega.{arith}
+use Prim.Native.Nat.{max}
 use Rattle.std.proofs.Math.ListN.{get_or-eq_default}
 use Rattle.base.proofs.IfLaws.{true_false, below_or}
 use Rattle.base.proofs.ScanLaws.{scan_step, scan_hit, scan_end, scan_ge, scan_le, scan_before, scan_fails}
@@ -54,6 +55,13 @@ module _ (c : ByteClass) (t : List ℕ) (from i : ℕ) (e : run_end c t i ≡ ru
 
   pub run_done : length t ≤ i → i ≡ run_end c t from
   run_done l = sym (run_end_lem c t i l) ∙ e
+
+  -- the same where the place goes no further than the text
+  pub run_past : length t ≤ i → from ≤ i → (from ≤ length t → i ≤ length t) → max from (length t) ≡ run_end c t from
+  run_past l g h =
+      below_or from (length t)
+      (λ b. let q : i ≡ length t = omega arith in let k = run_end_lem c t i l in omega arith)
+      (λ b. let k = run_end_lem c t from b in omega arith)
 
 -- a byte that passes a test which 0 fails stands in the text
 pub within : (p : ℕ → Bool) → p 0 ≡ false → (t : List ℕ) (i : ℕ) → p (get_or t i 0) ≡ true → i < length t

@@ -1,6 +1,6 @@
 -- `use` fields: the name in one stands behind `use=`, and the shortest is `use=,`.
 -- Assumes nothing.
-use Rattle.std.specs.Prelude.{◌≡◌, Bool, ◌&&◌, ◌||◌, List, [], ◌∷◌, length, get_or, take, drop}
+use Rattle.std.specs.Prelude.{◌≡◌, Bool, ◌&&◌, ◌||◌, List, [], ◌∷◌, length, get_or, take, drop, Option, Some, None}
 use Rattle.std.proofs.Math.Path.{refl}
 use Rattle.std.proofs.Common.{sym, ap, ◌∙◌, subst, arith, length-drop, length-take-le}
 use Rattle.std.proofs.Math.Bool.{true, false}
@@ -22,13 +22,11 @@ use Rattle.text.specs.declared.ByteClass.TheVariants as C
 use Rattle.text.specs.declared.FieldForm.{FieldForm}
 use Rattle.text.specs.declared.FieldForm.TheVariants as F
 use Rattle.text.specs.declared.Formed.{Formed}
-use Rattle.text.specs.declared.Formed.TheVariants as G
 use Rattle.text.specs.declared.Field.{Field}
-use Rattle.text.specs.declared.Field.TheVariants.{Right, Malformed}
 use Rattle.text.specs.Bytes.{run_end, base_of}
 use Rattle.text.specs.Strings.{Read, whole, malformed, read_at, read_bytes, content_of}
 use Rattle.text.specs.Numbers.{digits_most, with_digits, number_form, digits_in, digits_at, number_at}
-use Rattle.text.specs.Fields.{string_form, form_at, closed, named_at, field_at}
+use Rattle.text.specs.Fields.{string_form, form_at, field, closed, named_at, field_at}
 use Rattle.text.specs.Describing.{Saying, nothing, boolean, number, string, uses, boolean_by, number_by, string_by}
 use Rattle.text.specs.Describing.{saying_of, use_by, named_saying, Judging, judging}
 use Rattle.text.specs.Building.{UseAt}
@@ -38,70 +36,76 @@ use Rattle.text_laws.specs.JudgingLaws.{refused_gives, given_is, judged_field}
 
 -- ---- where a string stands in a field
 
--- a form at i that is a string starts behind the `=` at i and ends behind its start
-abbrev StringFrom : ℕ → Formed → Type 0
-StringFrom i (G.Right F.Boolean k) = Unit {0}
-StringFrom i (G.Right F.Cancelled k) = Unit {0}
-StringFrom i (G.Right (F.Number v) k) = Unit {0}
-StringFrom i (G.Right F.LargeNumber k) = Unit {0}
-StringFrom i (G.Right (F.String s n) k) = (s ≡ i + 1) × (s ≤ k)
-StringFrom i G.Malformed = Unit {0}
+-- a form at i that is a string starts behind the `=` at i and ends at k, behind its start
+abbrev StringFrom : ℕ → FieldForm → ℕ → Type 0
+StringFrom i F.Boolean k = Unit {0}
+StringFrom i F.Cancelled k = Unit {0}
+StringFrom i (F.Number v) k = Unit {0}
+StringFrom i F.LargeNumber k = Unit {0}
+StringFrom i (F.String s n) k = (s ≡ i + 1) × (s ≤ k)
 
--- a field at p that isn't dropped starts with its name, and its string starts behind `=`
-abbrev FieldFrom : ℕ → Field → Type 0
-FieldFrom p (Right true i k f next) = Unit {0}
-FieldFrom p (Right false i k F.Boolean next) = Unit {0}
-FieldFrom p (Right false i k F.Cancelled next) = Unit {0}
-FieldFrom p (Right false i k (F.Number v) next) = Unit {0}
-FieldFrom p (Right false i k F.LargeNumber next) = Unit {0}
-FieldFrom p (Right false i k (F.String s n) next) = (i ≡ p) × ((s ≡ k + 1) × (s < next))
-FieldFrom p Malformed = Unit {0}
+abbrev FormedFrom : ℕ → Option Formed → Type 0
+FormedFrom i (Some g) = StringFrom i g.form g.next
+FormedFrom i None = Unit {0}
+
+-- a field at p that isn't dropped starts with its name, from i to k, and its string starts behind `=`
+abbrev FormFrom : ℕ → Bool → (i k : ℕ) → FieldForm → ℕ → Type 0
+FormFrom p true i k f next = Unit {0}
+FormFrom p false i k F.Boolean next = Unit {0}
+FormFrom p false i k F.Cancelled next = Unit {0}
+FormFrom p false i k (F.Number v) next = Unit {0}
+FormFrom p false i k F.LargeNumber next = Unit {0}
+FormFrom p false i k (F.String s n) next = (i ≡ p) × ((s ≡ k + 1) × (s < next))
+
+abbrev FieldFrom : ℕ → Option Field → Type 0
+FieldFrom p (Some f) = FormFrom p f.dropped f.name f.end f.form f.next
+FieldFrom p None = Unit {0}
 
 module _ (t : List ℕ) where
-  digits_from_lem : (base : NumberBase) (p i : ℕ) → StringFrom p (digits_at base t i)
+  digits_from_lem : (base : NumberBase) (p i : ℕ) → FormedFrom p (digits_at base t i)
   unfolding digits_in number_form
   digits_from_lem base p i =
       let e : ℕ = run_end (C.Digit base) t i in
-      if_both (StringFrom p) (eqb e i) (λ _. tt)
-      (λ _. if_both (λ (f : FieldForm). StringFrom p (G.Right f e))
+      if_both (FormedFrom p) (eqb e i) (λ _. tt)
+      (λ _. if_both (λ (f : FieldForm). StringFrom p f e)
       (leb (with_digits (base_of base) t i (e - i) 0) number_most && leb (e - i) digits_most) (λ _. tt) (λ _. tt))
 
-  numeral_from : (p i : ℕ) → StringFrom p (number_at t i)
+  numeral_from : (p i : ℕ) → FormedFrom p (number_at t i)
   unfolding number_at
   numeral_from p i =
-      if_both (StringFrom p) (eqb (get_or t i 0) 48)
-      (λ _. if_both (StringFrom p) (eqb (get_or t (i + 1) 0) 120 || eqb (get_or t (i + 1) 0) 88)
+      if_both (FormedFrom p) (eqb (get_or t i 0) 48)
+      (λ _. if_both (FormedFrom p) (eqb (get_or t (i + 1) 0) 120 || eqb (get_or t (i + 1) 0) 88)
       (λ _. digits_from_lem Hexadecimal p (i + 2))
       (λ _. digits_from_lem Octal p i))
       (λ _. digits_from_lem Decimal p i)
 
-  string_from : (i : ℕ) → StringFrom i (string_form (i + 1) (content_of (read_at t (i + 1))))
+  string_from : (i : ℕ) → FormedFrom i (string_form (i + 1) (content_of (read_at t (i + 1))))
   unfolding content_of
   string_from i = by_read (read_at t (i + 1)) refl
     where
-      by_read : (r : Read) → read_at t (i + 1) ≡ r → StringFrom i (string_form (i + 1) (content_of r))
+      by_read : (r : Read) → read_at t (i + 1) ≡ r → FormedFrom i (string_form (i + 1) (content_of r))
       by_read (whole s k) e = (refl, (read_after t (i + 1) s k e).0)
       by_read malformed e = tt
 
-  form_from_lem : (i : ℕ) → StringFrom i (form_at t i)
+  form_from_lem : (i : ℕ) → FormedFrom i (form_at t i)
   unfolding form_at
   form_from_lem i =
-      if_both (StringFrom i) (eqb (get_or t i 0) 44) (λ _. tt)
-      (λ _. if_both (StringFrom i) (eqb (get_or t i 0) 64) (λ _. tt)
-      (λ _. if_both (StringFrom i) (eqb (get_or t i 0) 35) (λ _. numeral_from i (i + 1))
-      (λ _. if_both (StringFrom i) (eqb (get_or t i 0) 61) (λ _. string_from i) (λ _. tt))))
+      if_both (FormedFrom i) (eqb (get_or t i 0) 44) (λ _. tt)
+      (λ _. if_both (FormedFrom i) (eqb (get_or t i 0) 64) (λ _. tt)
+      (λ _. if_both (FormedFrom i) (eqb (get_or t i 0) 35) (λ _. numeral_from i (i + 1))
+      (λ _. if_both (FormedFrom i) (eqb (get_or t i 0) 61) (λ _. string_from i) (λ _. tt))))
 
-  right_from : (p e : ℕ) (f : FieldForm) (k : ℕ) → StringFrom e (G.Right f k)
-      → FieldFrom p (Right false p e f (k + 1))
+  right_from : (p e : ℕ) (f : FieldForm) (k : ℕ) → StringFrom e f k → FormFrom p false p e f (k + 1)
   right_from p e F.Boolean k r = tt
   right_from p e F.Cancelled k r = tt
   right_from p e (F.Number v) k r = tt
   right_from p e F.LargeNumber k r = tt
   right_from p e (F.String s n) k r = (refl, (r.0, omega arith))
 
-  closed_from : (p e : ℕ) (g : Formed) → StringFrom e g → FieldFrom p (closed t false p e g)
-  closed_from p e (G.Right f k) r = if_both (FieldFrom p) (eqb (get_or t k 0) 44) (λ _. right_from p e f k r) (λ _. tt)
-  closed_from p e G.Malformed r = tt
+  closed_from : (p e : ℕ) (g : Option Formed) → FormedFrom e g → FieldFrom p (closed t false p e g)
+  closed_from p e (Some g) r =
+      if_both (FieldFrom p) (eqb (get_or t g.next 0) 44) (λ _. right_from p e g.form g.next r) (λ _. tt)
+  closed_from p e None r = tt
 
   named_from : (p : ℕ) → FieldFrom p (named_at t false p)
   unfolding named_at
@@ -114,9 +118,9 @@ module _ (t : List ℕ) where
   dropped_from p i =
       if_both (FieldFrom p) (eqb (run_end C.Name t i) i) (λ _. tt) (λ _. by_form (form_at t (run_end C.Name t i)))
     where
-      by_form : (g : Formed) → FieldFrom p (closed t true i (run_end C.Name t i) g)
-      by_form (G.Right f k) = if_both (FieldFrom p) (eqb (get_or t k 0) 44) (λ _. tt) (λ _. tt)
-      by_form G.Malformed = tt
+      by_form : (g : Option Formed) → FieldFrom p (closed t true i (run_end C.Name t i) g)
+      by_form (Some g) = if_both (FieldFrom p) (eqb (get_or t g.next 0) 44) (λ _. tt) (λ _. tt)
+      by_form None = tt
 
   field_from : (p : ℕ) → FieldFrom p (field_at t p)
   unfolding field_at
@@ -145,12 +149,12 @@ pub record UseForm (t : List ℕ) (f : FieldForm) (n : List ℕ) : Type 0 where
   pub name : n ≡ read_bytes (read_at t start)
 
 module _ (t : List ℕ) (p : ℕ) where
-  saying_of_from : (f : FieldForm) (c : Found) (s : Saying) → saying_of t p f c ≡ gives s → NoUse s
+  saying_of_from : (f : FieldForm) (c : Option Found) (s : Saying) → saying_of t p f c ≡ gives s → NoUse s
   unfolding saying_of
-  saying_of_from f (N.Boolean q) s w = mapped_from NoUse (boolean q) s (boolean_by p f) (λ x. tt) w
-  saying_of_from f (N.Number q) s w = mapped_from NoUse (number q) s (number_by p f) (λ x. tt) w
-  saying_of_from f (N.String q) s w = mapped_from NoUse (string q) s (string_by t p f) (λ x. tt) w
-  saying_of_from f N.Unknown s w = refused_gives w
+  saying_of_from f (Some (N.Boolean q)) s w = mapped_from NoUse (boolean q) s (boolean_by p f) (λ x. tt) w
+  saying_of_from f (Some (N.Number q)) s w = mapped_from NoUse (number q) s (number_by p f) (λ x. tt) w
+  saying_of_from f (Some (N.String q)) s w = mapped_from NoUse (string q) s (string_by t p f) (λ x. tt) w
+  saying_of_from f None s w = refused_gives w
 
   use_form : (f : FieldForm) (n : List ℕ) → use_by t p f ≡ gives (uses n) → UseForm t f n
   use_form F.Boolean n w = refused_gives w
@@ -195,11 +199,11 @@ use_field e t p j n w u =
     let f = judged_field e t p j w in
     by_dropped f.dropped f.name f.past f.form f.field (f.says ∙ ap gives u)
   where
-    by_form : (i k : ℕ) (f : FieldForm) → field_at t p ≡ Right false i k f j.next
+    by_form : (i k : ℕ) (f : FieldForm) → field_at t p ≡ field false i k f j.next
         → (take (k - i) (drop i t) ≡ ascii "use") → UseForm t f n → UseField t p j.next n
     by_form i k f q l v =
-        let g : field_at t p ≡ Right false i k (F.String v.start v.size) j.next =
-        q ∙ ap (λ (x : FieldForm). Right false i k x j.next) v.form in
+        let g : field_at t p ≡ field false i k (F.String v.start v.size) j.next =
+        q ∙ ap (λ (x : FieldForm). field false i k x j.next) v.form in
         let h = subst (FieldFrom p) g (field_from t p) in
         let a = field_after t p false i k f j.next q in
         let a₁ = a.some in
@@ -211,7 +215,7 @@ use_field e t p j n w u =
         let s : v.start ≡ p + 4 = omega arith in
         record { name = v.name ∙ ap (λ (x : ℕ). read_bytes (read_at t x)) s; long = omega arith }
 
-    by_dropped : (dropped : Bool) (i k : ℕ) (f : FieldForm) → field_at t p ≡ Right dropped i k f j.next
+    by_dropped : (dropped : Bool) (i k : ℕ) (f : FieldForm) → field_at t p ≡ field dropped i k f j.next
         → (when dropped then gives nothing else named_saying e t p (take (k - i) (drop i t)) f) ≡ gives (uses n)
         → UseField t p j.next n
     by_dropped true i k f q v = absurd (subst NoUse (given_is v) tt)

@@ -13,6 +13,7 @@ use text_bytes::{blanks_end, byte_at, run_end};
 pub fn line_at(text: &[u8], at: usize) -> Line
     ensures { result ≡ line_at text.now at }
 {
+    // a cursor that moves by a line's length: no range counts it
     let mut i = at;
     loop {
         let j = blanks_end(text, i);

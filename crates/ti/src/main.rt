@@ -4,147 +4,84 @@
 #![tactic(auto)]
 
 use std::process::ExitCode;
-use ti_common::words::{Task, Words, is_same};
-use ti_common::{Status, complain};
+use ti_common::words::{Help, Words, count_all, misuse, word_at};
+use ti_common::{Stop, complain, say};
 
+mod command;
 mod help;
+
+use command::{ALL, Command};
 
 // The place of the word behind the command's name.
 const WORDS_FROM: u16 = 3;
 
-// Whether the command of that name is asked: all are by the empty word.
-fn asks(word: &[u8], name: &[u8]) -> bool {
-    if word.len() == 0 {
-        return true;
-    }
-    is_same(word, name)
-}
-
-// Runs the command of that name, or all.
-fn run_command(rt: HostRuntime, name: &[u8], words: Words) -> Status {
-    let mut status = Status::Unknown;
-    if asks(name, b"compile") {
-        status = ti_compile::run(rt, words);
-    }
-    if asks(name, b"check") {
-        status = ti_check::run(rt, words);
-    }
-    if asks(name, b"show") {
-        status = ti_show::run(rt, words);
-    }
-    if asks(name, b"merge") {
-        status = ti_merge::run(rt, words);
-    }
-    if asks(name, b"expand") {
-        status = ti_expand::run(rt, words);
-    }
-    status
-}
-
 // Says that no command has the name.
-fn refuse_command(rt: HostRuntime, name: &[u8]) -> Status {
+fn refuse_command(rt: HostRuntime, name: &[u8]) -> Stop {
     complain(rt, b"ti: ");
     ti_common::output::complain_quoted(rt, name);
     complain(rt, b": no such command; see ti help\n");
-    Status::Failed
+    Stop::Failed
 }
 
-// The status of a command that was asked by its name.
-fn known(rt: HostRuntime, name: &[u8], status: Status) -> Status {
-    match status {
-        Status::Done => Status::Done,
-        Status::Refused => Status::Refused,
-        Status::Failed => Status::Failed,
-        Status::Unknown => refuse_command(rt, name),
+// Says how each command is called. Each says by itself what failed; the last one's failure ends the list.
+fn list_commands(rt: HostRuntime) -> Result<(), Stop> {
+    let mut ended = Ok(());
+    for command in ALL {
+        ended = command.describe(rt, Help::Usage);
     }
-}
-
-// Says how each command is called.
-fn list_commands(rt: HostRuntime) -> Status {
-    let words = Words {
-        first: WORDS_FROM,
-        task: Task::Usage,
-        is_terminal: false,
-    };
-    match run_command(rt, b"", words) {
-        Status::Done => help::list_rest(rt),
-        Status::Refused => Status::Failed,
-        Status::Failed => Status::Failed,
-        Status::Unknown => Status::Failed,
-    }
+    ended?;
+    help::list_rest(rt)
 }
 
 // Says what a command does.
-fn describe(rt: HostRuntime, name: &[u8]) -> Status {
-    let words = Words {
-        first: WORDS_FROM,
-        task: Task::Help,
-        is_terminal: false,
-    };
-    match help::describe(rt, name) {
-        Status::Done => Status::Done,
-        Status::Refused => Status::Refused,
-        Status::Failed => Status::Failed,
-        Status::Unknown => known(rt, name, run_command(rt, name, words)),
+fn describe(rt: HostRuntime, name: &[u8]) -> Result<(), Stop> {
+    if let Some(text) = help::text_of(name) {
+        return say(rt, text);
+    }
+    match Command::named(name) {
+        Some(command) => command.describe(rt, Help::Whole),
+        None => Err(refuse_command(rt, name)),
     }
 }
 
 // `ti help [COMMAND]`
-fn run_help(rt: HostRuntime) -> Status {
-    match ti_common::words::count_all(rt) {
+fn run_help(rt: HostRuntime) -> Result<(), Stop> {
+    match count_all(rt) {
         3 => list_commands(rt),
         4 => {
             let mut name = io::buffer();
-            let got = ti_common::words::word_at(rt, 3, &mut name);
-            if !got.ok {
-                return Status::Failed;
-            }
-            let n = got.length;
-            if n == 0 {
-                return refuse_command(rt, b"");
-            }
-            describe(rt, &name[..n])
+            describe(rt, word_at(rt, 3, &mut name)?)
         }
-        _ => ti_common::words::misuse(rt, b"help [COMMAND]"),
+        _ => Err(misuse(rt, b"help [COMMAND]")),
     }
-}
-
-// Whether help is asked.
-fn is_help(name: &[u8]) -> bool {
-    is_same(name, b"help") | is_same(name, b"--help") | is_same(name, b"-h")
 }
 
 // Runs the command that is named.
-fn run_named(rt: HostRuntime, name: &[u8], is_terminal: bool) -> Status {
-    if name.len() == 0 {
-        return refuse_command(rt, name);
-    }
-    if is_help(name) {
+fn run_named(rt: HostRuntime, name: &[u8], is_terminal: bool) -> Result<(), Stop> {
+    if matches!(name, b"help" | b"--help" | b"-h") {
         return run_help(rt);
     }
     let words = Words {
         first: WORDS_FROM,
-        task: Task::Run,
         is_terminal,
     };
-    known(rt, name, run_command(rt, name, words))
+    match Command::named(name) {
+        Some(command) => command.run(rt, words),
+        None => Err(refuse_command(rt, name)),
+    }
 }
 
-fn run(rt: HostRuntime) -> Status {
-    if ti_common::words::count_all(rt) < 3 {
+fn run(rt: HostRuntime) -> Result<(), Stop> {
+    if count_all(rt) < 3 {
         complain(rt, b"usage: ti COMMAND [WORD]..; see ti help\n");
-        return Status::Failed;
+        return Err(Stop::Failed);
     }
     let mut how = io::buffer();
     let mut name = io::buffer();
-    let first = ti_common::words::word_at(rt, 1, &mut how);
-    let second = ti_common::words::word_at(rt, 2, &mut name);
-    if !(first.ok & second.ok) {
-        return Status::Failed;
-    }
-    let m = first.length;
-    let n = second.length;
-    run_named(rt, &name[..n], is_same(&how[..m], b"tty"))
+    // Both are read, so that each that can't be is said.
+    let how = word_at(rt, 1, &mut how);
+    let name = word_at(rt, 2, &mut name);
+    run_named(rt, name?, matches!(how?, b"tty"))
 }
 
 fn main(rt: HostRuntime) -> ExitCode {

@@ -1,12 +1,11 @@
--- What the statuses of ti are as numbers.
+-- What the ends of ti's commands are as numbers.
 -- Assumes nothing.
-use Rattle.std.specs.Prelude.{ℕ}
-use Rattle.ti_common.specs.declared.Status.{Status}
-use Rattle.ti_common.specs.declared.Status.TheVariants.{Done, Refused, Failed, Unknown}
+use Rattle.std.specs.Prelude.{ℕ, Result, Ok, Err}
+use Rattle.ti_common.specs.declared.Stop.{Stop}
+use Rattle.ti_common.specs.declared.Stop.TheVariants.{Refused, Failed}
 
 -- 0 done, 1 refused, 2 wrong usage or failed input or output
-abbrev pub status_number : Status → ℕ
-status_number Done = 0
-status_number Refused = 1
-status_number Failed = 2
-status_number Unknown = 2
+abbrev pub status_number : Result (Unit {0}) Stop → ℕ
+status_number (Ok x) = 0
+status_number (Err Refused) = 1
+status_number (Err Failed) = 2

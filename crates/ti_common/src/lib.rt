@@ -2,32 +2,34 @@
 // function is safe and ends. Assumed: what std says of the system.
 #![tactic(auto)]
 
-ghost use Rattle.std.specs.Prelude.{◌≡◌, ℕ};
+ghost use Rattle.std.specs.Prelude.{◌≡◌, ℕ, take};
 ghost use Rattle.std.specs.Process.{exit_status};
-ghost use Rattle.io.specs.Counts.{IsPrefixLen};
 ghost use Rattle.ti_common.specs.Ends.{status_number};
 
-use entry::FILE_MOST;
+use entry::{FILE_MOST, FileRefusal};
 use std::io::Error;
-use std::ops::BitAnd;
 use std::process::ExitCode;
 
 pub mod output;
 pub mod reason;
 pub mod words;
 
-// The room for a compiled file: one byte more than it may have, so that a longer one is refused and never cut.
+// The room for a compiled file: one byte more than it may have, so that a longer one is refused and never cut. (The
+// commands' buffers are of fixed size and no `Vec`s, since memory that runs out would be a new way to fail.)
 pub const FILE_ROOM: usize = FILE_MOST + 1;
 
-// How a command ends.
-#[derive(Clone, Copy)]
-pub enum Status {
-    Done,
+// Why a command ends that is not done; what is wrong was said.
+#[derive(Clone, Copy, PartialEq, Eq)]
+pub enum Stop {
     Refused,
     // input or output failed, or the words given are wrong
     Failed,
-    // no command has the name
-    Unknown,
+}
+
+impl From<FileRefusal> for Stop {
+    fn from(_why: FileRefusal) -> Stop {
+        Stop::Refused
+    }
 }
 
 fn hand_over(status: u8) -> ExitCode
@@ -37,56 +39,14 @@ fn hand_over(status: u8) -> ExitCode
 }
 
 // The status that the program ends with.
-pub fn finish(status: Status) -> ExitCode
-    ensures { exit_status result ≡ status_number status }
+pub fn finish(ended: Result<(), Stop>) -> ExitCode
+    ensures { exit_status result ≡ status_number ended }
 {
-    match status {
-        Status::Done => hand_over(0),
-        Status::Refused => hand_over(1),
-        Status::Failed => hand_over(2),
-        Status::Unknown => hand_over(2),
+    match ended {
+        Ok(()) => hand_over(0),
+        Err(Stop::Refused) => hand_over(1),
+        Err(Stop::Failed) => hand_over(2),
     }
-}
-
-// What became of bytes that were to be written: why they were not, where they were not.
-#[derive(Clone, Copy)]
-pub struct Sent {
-    pub failure: Option<Error>,
-}
-
-// All bytes were written.
-pub fn all_sent() -> Sent {
-    Sent { failure: None }
-}
-
-// What a call of std that writes answered.
-pub fn sent_if(written: Result<(), Error>) -> Sent {
-    match written {
-        Ok(()) => all_sent(),
-        Err(e) => Sent { failure: Some(e) },
-    }
-}
-
-// Bytes and then others: of two failures the later one counts.
-impl BitAnd for Sent {
-    type Output = Sent;
-
-    fn bitand(self, rhs: Sent) -> Sent {
-        match rhs.failure {
-            Some(_) => rhs,
-            None => self,
-        }
-    }
-}
-
-// Writes bytes to standard output.
-pub fn say(rt: HostRuntime, bytes: &[u8]) -> Sent {
-    sent_if(rt.stdout().write_all(bytes))
-}
-
-// Writes a number to standard output.
-pub fn say_number(rt: HostRuntime, n: usize) -> Sent {
-    sent_if(rt.stdout().print(n))
 }
 
 // Writes bytes to standard error.
@@ -94,46 +54,34 @@ pub fn complain(rt: HostRuntime, bytes: &[u8]) {
     let _ = rt.stderr().write_all(bytes);
 }
 
-// Writes a number to standard error.
-pub fn complain_number(rt: HostRuntime, n: usize) {
-    let _ = rt.stderr().print(n);
-}
-
 // Says what failed, with the system's reason.
-pub fn fail(rt: HostRuntime, what: &[u8], why: Error) {
+pub fn fail(rt: HostRuntime, what: &[u8], why: Error) -> Stop {
     complain(rt, b"ti: ");
     complain(rt, what);
     complain(rt, b": ");
     reason::complain_reason(rt, why);
     complain(rt, b"\n");
+    Stop::Failed
 }
 
-// The status of a program that is done if all of its output was written.
-pub fn written(rt: HostRuntime, sent: Sent) -> Status {
-    match sent.failure {
-        None => Status::Done,
-        Some(why) => {
-            fail(rt, b"standard output", why);
-            Status::Failed
-        }
-    }
+// Says why output was not written, where it was not.
+pub fn written(rt: HostRuntime, sent: Result<(), Error>) -> Result<(), Stop> {
+    sent.map_err(|why| fail(rt, b"standard output", why))
+}
+
+// Writes bytes to standard output.
+pub fn say(rt: HostRuntime, bytes: &[u8]) -> Result<(), Stop> {
+    written(rt, rt.stdout().write_all(bytes))
 }
 
 // Says what was done, and the file's size.
-pub fn say_size(rt: HostRuntime, what: &[u8], file: &[u8]) -> Status {
-    written(
-        rt,
-        say(rt, what) & say_number(rt, file.len()) & say(rt, b" bytes\n"),
-    )
+pub fn say_size(rt: HostRuntime, what: &str, file: &[u8]) -> Result<(), Stop> {
+    written(rt, print!(rt; "{what}{} bytes\n", file.len()))
 }
 
-// A part of the buffer that begins it, as long as the length says, or the whole buffer where that is longer.
-pub fn part(length: usize, buffer: &[u8]) -> usize
-    ensures { IsPrefixLen result buffer.now }
+// The bytes at the buffer's start, as many as the length says, or all where they are fewer.
+pub fn front(length: usize, buffer: &[u8]) -> &[u8]
+    ensures { result.now ≡ take length buffer.now }
 {
-    if length < buffer.len() {
-        length
-    } else {
-        buffer.len()
-    }
+    buffer.get(..length).unwrap_or(buffer)
 }

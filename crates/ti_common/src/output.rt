@@ -1,7 +1,7 @@
 // Bytes written as people read them.
-ghost use Rattle.std.specs.Prelude.{◌+◌, ◌*◌, ◌<◌, ◌≤◌, length};
+ghost use Rattle.std.specs.Prelude.{◌≤◌, length};
 
-use crate::{Sent, sent_if};
+use crate::{Stop, written};
 use shown::{NAMES_LEAST, show};
 use std::io::Error;
 
@@ -17,32 +17,17 @@ fn write_piece<P: Print>(to: &P, bytes: &[u8], least: u8) -> Result<(), Error>
     to.write_all(&out[..n])
 }
 
-// The end of the piece that starts at a place.
-fn piece_end(bytes: &[u8], at: usize) -> usize
-    requires { at < length bytes.now }
-    ensures { (at < result) × (result ≤ length bytes.now) × (result ≤ at + 256) }
-{
-    let rest = bytes.len() - at;
-    if rest < PIECE {
-        return bytes.len();
-    }
-    at + PIECE
-}
-
 // Writes bytes to standard output or error, as they are shown.
 fn write_shown<P: Print>(to: &P, bytes: &[u8], least: u8) -> Result<(), Error> {
-    let mut at = 0;
-    while at < bytes.len() {
-        let end = piece_end(bytes, at);
-        write_piece(to, &bytes[at..end], least)?;
-        at = end;
+    for piece in bytes.chunks(PIECE) {
+        write_piece(to, piece, least)?;
     }
     Ok(())
 }
 
 // Writes bytes to standard output, as they are shown.
-pub fn say_shown(rt: HostRuntime, bytes: &[u8], least: u8) -> Sent {
-    sent_if(write_shown(&rt.stdout(), bytes, least))
+pub fn say_shown(rt: HostRuntime, bytes: &[u8], least: u8) -> Result<(), Stop> {
+    written(rt, write_shown(&rt.stdout(), bytes, least))
 }
 
 // Writes a word in quotes to standard error, as it is shown.

@@ -51,8 +51,7 @@ pub fn complain_reason(rt: HostRuntime, why: Error) {
         length: 0,
     };
     let _ = write!(text, "{why}");
-    let n = crate::part(text.length, &text.bytes);
-    if let Ok(said) = str::from_utf8(&text.bytes[..n]) {
+    if let Ok(said) = str::from_utf8(crate::front(text.length, &text.bytes)) {
         crate::complain(rt, reason_of(said).as_bytes());
     }
 }

@@ -8,11 +8,10 @@ use names::Found;
 use text::TextRefusal;
 use ti_common::complain;
 use ti_common::output::complain_quoted;
-use ti_common::words::is_same;
 
 // Says a name that the edition knows no capability of.
 fn complain_nameless(rt: HostRuntime, name: &[u8]) {
-    if is_same(name, b"use") {
+    if matches!(name, b"use") {
         complain(rt, b"'use' names a description, and is written with =");
     } else {
         ti_refusals::complain_unknown(rt, name);
@@ -22,16 +21,16 @@ fn complain_nameless(rt: HostRuntime, name: &[u8]) {
 // Says a name that is unknown, or whose capability is written in another way.
 fn complain_unknown(rt: HostRuntime, name: &[u8], edition: Edition) {
     match lookup::find(name, edition) {
-        Found::Unknown => complain_nameless(rt, name),
-        Found::Boolean(_) => {
+        None => complain_nameless(rt, name),
+        Some(Found::Boolean(_)) => {
             complain_quoted(rt, name);
             complain(rt, b" is a boolean, which is written alone");
         }
-        Found::Number(_) => {
+        Some(Found::Number(_)) => {
             complain_quoted(rt, name);
             complain(rt, b" is a number, which is written with #");
         }
-        Found::String(_) => {
+        Some(Found::String(_)) => {
             complain_quoted(rt, name);
             complain(rt, b" is a string, which is written with =");
         }
@@ -42,10 +41,9 @@ fn complain_unknown(rt: HostRuntime, name: &[u8], edition: Edition) {
 fn complain_limit(rt: HostRuntime, name: &[u8], edition: Edition) {
     complain_quoted(rt, name);
     match lookup::find(name, edition) {
-        Found::Unknown => complain(rt, b" is longer than 1,000 bytes"),
-        Found::Boolean(_) => complain(rt, b" is past a limit"),
-        Found::Number(_) => complain(rt, b" is above 32,767, or has more than 99 digits"),
-        Found::String(_) => complain(rt, b" is longer than 1,000 bytes"),
+        Some(Found::Boolean(_)) => complain(rt, b" is past a limit"),
+        Some(Found::Number(_)) => complain(rt, b" is above 32,767, or has more than 99 digits"),
+        Some(Found::String(_)) | None => complain(rt, b" is longer than 1,000 bytes"),
     }
 }
 
@@ -81,10 +79,7 @@ pub fn complain_field(
     requires { length text.now ≤ text_room }
 {
     let end = text_bytes::name_end(text, place);
-    if text.len() < end {
-        return;
-    }
-    if end < place {
+    if text.len() < end || end < place {
         return;
     }
     complain_named(rt, &text[place..end], edition, why, text, end);

@@ -1,55 +1,34 @@
 // The line of a refused field, as a terminal shows it, with a caret below the field's first byte.
-ghost use Rattle.std.specs.Prelude.{◌≤◌, ◌<◌, length};
+ghost use Rattle.std.specs.Prelude.{◌≤◌, length};
 
 use ti_common::complain;
 
 // What stands for a byte: itself, or a blank for white space, or `?`, so that each takes one column.
 fn view(c: u8) -> u8 {
-    if c == b'\t' {
-        return b' ';
+    match c {
+        b'\t' => b' ',
+        32..=126 => c,
+        _ => b'?',
     }
-    if c < 32 {
-        return b'?';
-    }
-    if 126 < c {
-        return b'?';
-    }
-    c
 }
 
-// Where the line of a place starts.
-fn line_start(text: &[u8], place: usize) -> usize
-    requires { place ≤ length text.now }
-    ensures { result ≤ place }
+// Where the line that bytes end in starts.
+fn line_start(before: &[u8]) -> usize
+    ensures { result ≤ length before.now }
 {
-    let mut start = place;
-    while 0 < start {
-        if text[start - 1] == 10 {
-            return start;
-        }
-        start -= 1;
+    match before.iter().rposition(|c| *c == b'\n') {
+        Some(i) => i + 1,
+        None => 0,
     }
-    start
 }
 
-// Writes the line from its start on.
-fn complain_line(rt: HostRuntime, text: &[u8], start: usize) {
-    let mut i = start;
-    while i < text.len() {
-        if text[i] == 10 {
+// Writes the line that bytes begin with.
+fn complain_line(rt: HostRuntime, bytes: &[u8]) {
+    for c in bytes {
+        if *c == b'\n' {
             return;
         }
-        complain(rt, &[view(text[i])]);
-        i += 1;
-    }
-}
-
-// Writes a blank for each place from one to another.
-fn complain_blanks(rt: HostRuntime, from: usize, to: usize) {
-    let mut i = from;
-    while i < to {
-        complain(rt, b" ");
-        i += 1;
+        complain(rt, &[view(*c)]);
     }
 }
 
@@ -58,9 +37,11 @@ pub fn show(rt: HostRuntime, text: &[u8], place: usize) {
     if text.len() < place {
         return;
     }
-    let start = line_start(text, place);
-    complain_line(rt, text, start);
+    let start = line_start(&text[..place]);
+    complain_line(rt, &text[start..]);
     complain(rt, b"\n");
-    complain_blanks(rt, start, place);
+    for _ in start..place {
+        complain(rt, b" ");
+    }
     complain(rt, b"^\n");
 }

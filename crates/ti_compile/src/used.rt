@@ -1,21 +1,18 @@
 // What is wrong with the description that a `use` field names, by the string behind `use=`.
 use entry::CONTENT_MOST;
-use text::Content;
 use ti_common::complain;
 use ti_common::output::complain_quoted;
 
 // Writes the name that the string at a place stands for, in quotes.
 fn complain_name(rt: HostRuntime, text: &[u8], at: usize) {
-    match contents::content_at(text, at) {
-        Content::Whole(size, _) => {
-            if CONTENT_MOST < size {
-                return;
-            }
-            let mut name = io::buffer();
-            contents::put_read(&mut name, 0, text, at, size);
-            complain_quoted(rt, &name[..size]);
+    if let Some(content) = contents::content_at(text, at) {
+        let size = content.length;
+        if CONTENT_MOST < size {
+            return;
         }
-        Content::Malformed => {}
+        let mut name = io::buffer();
+        contents::put_read(&mut name, 0, text, at, size);
+        complain_quoted(rt, &name[..size]);
     }
 }
 

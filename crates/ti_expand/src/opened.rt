@@ -1,56 +1,38 @@
 // A string of a file that is opened, expanded; the bounds of its expansion.
 ghost use Rattle.std.specs.Prelude.{◌≡◌, ◌≤◌, length};
-ghost use Rattle.entry.specs.Asking.{opening};
-ghost use Rattle.entry.specs.Says.{says_opened};
 ghost use Rattle.expansion.specs.Limits.{string_most};
 ghost use Rattle.expansion.specs.Counting.{room_with};
 ghost use Rattle.terminfo.specs.Lent.{expanding_at, WrittenAs};
 
-use edition::{Edition, Place};
-use entry::{Opened, StringState};
-use expansion::{Argument, Expansion};
-use terminfo::ExpandedString;
+use edition::Place;
+use entry::State;
+use expansion::{Argument, ExpansionRefusal, Output};
+use show_names::OpenFile;
 
 // Expands the string at a place into the free part of the buffer from at on, as `terminfo::open_expand_texts` does, by
 // what opening answered. The output holds no NUL where no text holds one (`expanding_at_no_nul` of
 // terminfo/specs/NoNul.antt).
 pub fn expand_opened(
-    file: &[u8],
-    edition: Edition,
-    opened: Opened,
+    opened: OpenFile,
     place: Place,
     arguments: [Argument; 9],
     texts: &[u8],
     out: &mut [u8],
     at: usize,
-) -> ExpandedString
-    requires { says_opened opened ≡ opening edition file.now }
-    ensures { WrittenAs (expanding_at edition file.now place arguments texts.now
+) -> Result<State<Output>, ExpansionRefusal>
+    ensures { WrittenAs (expanding_at opened.entry.edition opened.entry.file.now place arguments texts.now
         (length out.old) at) out.old at out.new result }
 {
     if out.len() < at {
-        return ExpandedString::Expansion(Expansion::Place);
+        return Err(ExpansionRefusal::Place);
     }
     if !arguments::all_lie_in(arguments, texts.len()) {
-        return ExpandedString::Expansion(Expansion::Place);
+        return Err(ExpansionRefusal::Place);
     }
-    match opened_file::string_if_opened(file, edition, opened, place) {
-        StringState::Present(p) => {
-            let string = states::part(file, p);
-            let e = expand::expand_texts(
-                string,
-                arguments,
-                texts,
-                terminfo::zero_lasting(),
-                out,
-                at,
-            );
-            let answer = e.answer;
-            ExpandedString::Expansion(answer)
-        }
-        StringState::Absent => ExpandedString::Absent,
-        StringState::Cancelled => ExpandedString::Cancelled,
-        StringState::Refused => ExpandedString::Expansion(Expansion::Place),
+    let tables = opened.answer.tables;
+    match opened_file::string_opened(opened.file, opened.edition, tables, place) {
+        Some(state) => terminfo::expand_state(opened.file, state, arguments, texts, out, at),
+        None => Err(ExpansionRefusal::Place),
     }
 }
 
@@ -84,19 +66,10 @@ fn bounds_of(string: &[u8], longest: u16) -> Bounds
 }
 
 // The bounds for the string at a place; 0 where there is none.
-pub fn bounds_at(
-    file: &[u8],
-    edition: Edition,
-    opened: Opened,
-    place: Place,
-    longest: u16,
-) -> Bounds
-    requires { says_opened opened ≡ opening edition file.now }
-{
-    match opened_file::string_if_opened(file, edition, opened, place) {
-        StringState::Present(p) => bounds_of(states::part(file, p), longest),
-        StringState::Absent => Bounds { steps: 0, bytes: 0 },
-        StringState::Cancelled => Bounds { steps: 0, bytes: 0 },
-        StringState::Refused => Bounds { steps: 0, bytes: 0 },
+pub fn bounds_at(opened: OpenFile, place: Place, longest: u16) -> Bounds {
+    let tables = opened.answer.tables;
+    match opened_file::string_opened(opened.file, opened.edition, tables, place) {
+        Some(State::Present(p)) => bounds_of(states::part(opened.file, p), longest),
+        _ => Bounds { steps: 0, bytes: 0 },
     }
 }

@@ -10,8 +10,5 @@ pub mod save;
 
 // The text of a path, which std asks for.
 fn path_text(path: &[u8]) -> Result<&str, Error> {
-    match str::from_utf8(path) {
-        Ok(text) => Ok(text),
-        Err(_) => Err(reason::no_text()),
-    }
+    str::from_utf8(path).map_err(|_| reason::no_text())
 }

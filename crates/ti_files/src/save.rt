@@ -7,7 +7,7 @@ use beside::name_beside;
 use std::fs;
 use std::fs::{File, OpenOptions};
 use std::io::{Error, Write};
-use ti_common::{Status, complain, fail};
+use ti_common::{Stop, complain, fail};
 
 // The most bytes of a path.
 const PATH_MOST: usize = 4096;
@@ -44,70 +44,56 @@ fn put_beside(rt: HostRuntime, path: &[u8], name: &[u8], file: &[u8]) -> Result<
     put_renamed(rt, path_text(path)?, path_text(name)?, file)
 }
 
-// Writes the file under a name of its own and renames it, or says what failed and leaves an old file as it was.
-fn replace(rt: HostRuntime, path: &[u8], name: &[u8], file: &[u8]) -> bool {
-    match put_beside(rt, path, name, file) {
-        Ok(()) => true,
-        Err(why) => {
-            fail(rt, path, why);
-            false
-        }
-    }
-}
-
 // The process's number.
 fn process(rt: HostRuntime) -> u64 {
     std::process::id(rt.process()) as u64
 }
 
 // Saves the file under the path, whole or not at all.
-fn save(rt: HostRuntime, path: &[u8], file: &[u8]) -> bool
+fn save(rt: HostRuntime, path: &[u8], file: &[u8]) -> Result<(), Error>
     requires { length path.now ≤ path_room }
 {
     let mut digits = [0u8; 20];
     let k = io::decimal(process(rt), &mut digits);
     let mut name = [0u8; NAME_ROOM];
     let n = name_beside(path, &digits[..k], &mut name);
-    replace(rt, path, &name[..n], file)
+    put_beside(rt, path, &name[..n], file)
 }
 
 // Whether a file can stand under the path: nothing is there, or a regular file.
 fn is_regular(rt: HostRuntime, path: &[u8]) -> bool {
-    match path_text(path) {
-        Ok(text) => match fs::metadata(&rt, text) {
-            Ok(found) => found.is_file(),
-            Err(_) => true,
-        },
+    match path_text(path).and_then(|text| fs::metadata(&rt, text)) {
+        Ok(found) => found.is_file(),
         Err(_) => true,
     }
 }
 
-// Whether an output file can stand under the path; if not, says why.
-pub fn is_output(rt: HostRuntime, path: &[u8]) -> bool {
+// Expects that an output file can stand under the path; if not, says why.
+pub fn expect_output(rt: HostRuntime, path: &[u8]) -> Result<(), Stop> {
     if crate::input::is_standard(path) {
         complain(
             rt,
             b"ti: -: the output is a file (one of this name is ./-)\n",
         );
-        return false;
+        return Err(Stop::Failed);
     }
     if !is_regular(rt, path) {
         complain(rt, b"ti: ");
         complain(rt, path);
         complain(rt, b": not a regular file\n");
-        return false;
+        return Err(Stop::Failed);
     }
-    true
+    Ok(())
 }
 
 // Saves the file under the path and says what was done, with the file's size; or says what failed.
-pub fn save_saying(rt: HostRuntime, path: &[u8], file: &[u8], what: &[u8]) -> Status {
+pub fn save_saying(rt: HostRuntime, path: &[u8], file: &[u8], what: &str) -> Result<(), Stop> {
     if PATH_MOST < path.len() {
         complain(rt, b"ti: the path is too long\n");
-        return Status::Failed;
+        return Err(Stop::Failed);
     }
-    if save(rt, path, file) {
-        return ti_common::say_size(rt, what, file);
+    match save(rt, path, file) {
+        Ok(()) => ti_common::say_size(rt, what, file),
+        Err(why) => Err(fail(rt, path, why)),
     }
-    Status::Failed
 }

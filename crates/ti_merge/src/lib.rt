@@ -3,129 +3,102 @@
 #![tactic(auto)]
 
 use edition::Edition;
-use entry::{FILE_MOST, Merged};
+use entry::{FILE_MOST, MergeRefusal};
 use option_words::OwnOption;
-use ti_common::words::{Task, Words};
-use ti_common::{FILE_ROOM, Status};
-use ti_options::Outcome;
+use refusal_numbers::Refusal;
+use ti_common::words::{Help, Words, misuse};
+use ti_common::{FILE_ROOM, Stop};
 
-fn describe(rt: HostRuntime, words: Words) -> Status {
-    ti_common::words::describe(
-        rt,
-        words,
-        b"merge [-e EDITION] A B OUT",
-        b"Writes the compiled file A over B to the file OUT, in the second edition, or the one behind -e: 1,\n\
-            2 or its three counts, as 21,8,138. The names are A's, and each state is A's unless it is absent,\n\
-            then B's. A cancelled capability of A stays cancelled.\n",
-    )
+const USAGE: &[u8] = b"merge [-e EDITION] A B OUT";
+
+const TEXT: &[u8] = b"\
+    Writes the compiled file A over B to the file OUT, in the second edition, or the one behind -e: 1,\n\
+    2 or its three counts, as 21,8,138. The names are A's, and each state is A's unless it is absent,\n\
+    then B's. A cancelled capability of A stays cancelled.\n";
+
+// The paths of the two files and of the output.
+#[derive(Clone, Copy)]
+struct Paths<'a> {
+    a: &'a [u8],
+    b: &'a [u8],
+    out: &'a [u8],
 }
 
-fn misuse(rt: HostRuntime) -> Status {
-    ti_common::words::misuse(rt, b"merge [-e EDITION] A B OUT")
+// Says why two files are not merged.
+fn refuse_merge(
+    rt: HostRuntime,
+    paths: Paths,
+    first: &[u8],
+    second: &[u8],
+    edition: Edition,
+    why: MergeRefusal,
+) -> Stop {
+    match why {
+        MergeRefusal::Edition => ti_refusals::refuse_edition(rt),
+        MergeRefusal::First(why) => ti_refusals::refuse_file(rt, paths.a, first, edition, why),
+        MergeRefusal::Second(why) => ti_refusals::refuse_file(rt, paths.b, second, edition, why),
+        MergeRefusal::Size => ti_refusals::refuse(
+            rt,
+            paths.out,
+            b"the merged file would be longer than 4,096 bytes",
+            why.number(),
+        ),
+        MergeRefusal::Room(n) => ti_refusals::refuse_room(rt, paths.out, n, why.number()),
+    }
 }
 
 // Merges two files and saves the file, or says why not.
 fn merge_to(
     rt: HostRuntime,
-    a: &[u8],
-    b: &[u8],
-    out: &[u8],
+    paths: Paths,
     first: &[u8],
     second: &[u8],
     edition: Edition,
-) -> Status {
+) -> Result<(), Stop> {
     let mut file = [0u8; FILE_MOST];
-    let answer = merge::merge(first, second, edition, &mut file);
-    let number = refusal_numbers::of_merged(answer);
-    match answer {
-        Merged::File(n) => {
-            let k = ti_common::part(n, &file);
-            ti_files::save::save_saying(rt, out, &file[..k], b"merged: ")
+    match merge::merge(first, second, edition, &mut file) {
+        Ok(n) => {
+            let merged = ti_common::front(n, &file);
+            ti_files::save::save_saying(rt, paths.out, merged, "merged: ")
         }
-        Merged::Edition => ti_refusals::refuse_edition(rt),
-        Merged::First(why) => ti_refusals::refuse_file(rt, a, first, edition, why),
-        Merged::Second(why) => ti_refusals::refuse_file(rt, b, second, edition, why),
-        Merged::Size => ti_refusals::refuse(
-            rt,
-            out,
-            b"the merged file would be longer than 4,096 bytes",
-            number,
-        ),
-        Merged::Room(n) => ti_refusals::refuse_room(rt, out, n, number),
+        Err(why) => Err(refuse_merge(rt, paths, first, second, edition, why)),
     }
-}
-
-// Reads the second file and merges.
-fn merge_over(
-    rt: HostRuntime,
-    a: &[u8],
-    b: &[u8],
-    out: &[u8],
-    first: &[u8],
-    edition: Edition,
-) -> Status {
-    let mut file = [0u8; FILE_ROOM];
-    let got = ti_files::input::read_file(rt, b, &mut file);
-    if !got.ok {
-        return Status::Failed;
-    }
-    let k = ti_common::part(got.length, &file);
-    merge_to(rt, a, b, out, first, &file[..k], edition)
 }
 
 // Reads the files and merges.
-fn merge_files(rt: HostRuntime, a: &[u8], b: &[u8], out: &[u8], edition: Edition) -> Status {
-    if ti_files::input::is_standard(a) & ti_files::input::is_standard(b) {
+fn merge_files(rt: HostRuntime, paths: Paths, edition: Edition) -> Result<(), Stop> {
+    if ti_files::input::is_standard(paths.a) && ti_files::input::is_standard(paths.b) {
         ti_common::complain(rt, b"ti: only one of A and B can be standard input\n");
-        return Status::Failed;
+        return Err(Stop::Failed);
     }
-    if !ti_files::save::is_output(rt, out) {
-        return Status::Failed;
-    }
-    let mut file = [0u8; FILE_ROOM];
-    let got = ti_files::input::read_file(rt, a, &mut file);
-    if !got.ok {
-        return Status::Failed;
-    }
-    let k = ti_common::part(got.length, &file);
-    merge_over(rt, a, b, out, &file[..k], edition)
+    ti_files::save::expect_output(rt, paths.out)?;
+    let mut first = [0u8; FILE_ROOM];
+    let mut second = [0u8; FILE_ROOM];
+    let first = ti_files::input::read_file(rt, paths.a, &mut first)?;
+    let second = ti_files::input::read_file(rt, paths.b, &mut second)?;
+    merge_to(rt, paths, first, second, edition)
 }
 
-// Takes the three paths.
-fn merge_operands(rt: HostRuntime, operands: Words, edition: Edition) -> Status {
-    if ti_common::words::count(rt, operands) != 3 {
-        return misuse(rt);
+pub fn run(rt: HostRuntime, words: Words) -> Result<(), Stop> {
+    let options = ti_options::take(rt, words, OwnOption::Nothing, USAGE)?;
+    if options.words.count(rt) != 3 {
+        return Err(misuse(rt, USAGE));
     }
     let mut a = io::buffer();
     let mut b = io::buffer();
     let mut out = io::buffer();
-    let first = ti_common::words::operand(rt, operands, 0, &mut a);
-    let second = ti_common::words::operand(rt, operands, 1, &mut b);
-    let third = ti_common::words::operand(rt, operands, 2, &mut out);
-    if !(first.ok & second.ok & third.ok) {
-        return Status::Failed;
-    }
-    let m = first.length;
-    let n = second.length;
-    let k = third.length;
-    merge_files(rt, &a[..m], &b[..n], &out[..k], edition)
+    // All are read, so that each that can't be is said.
+    let a = options.words.operand(rt, 0, &mut a);
+    let b = options.words.operand(rt, 1, &mut b);
+    let out = options.words.operand(rt, 2, &mut out);
+    let paths = Paths {
+        a: a?,
+        b: b?,
+        out: out?,
+    };
+    merge_files(rt, paths, options.edition)
 }
 
-fn merge_words(rt: HostRuntime, words: Words) -> Status {
-    let options = ti_options::take(rt, words, OwnOption::Nothing);
-    let outcome = options.outcome;
-    match outcome {
-        Outcome::Taken => merge_operands(rt, options.words, options.edition),
-        Outcome::Wrong => misuse(rt),
-        Outcome::Large => ti_refusals::refuse_edition(rt),
-    }
-}
-
-pub fn run(rt: HostRuntime, words: Words) -> Status {
-    let task = words.task;
-    match task {
-        Task::Run => merge_words(rt, words),
-        Task::Usage => describe(rt, words),
-        Task::Help => describe(rt, words),
-    }
+pub fn describe(rt: HostRuntime, help: Help) -> Result<(), Stop> {
+    ti_common::words::describe(rt, help, USAGE, TEXT)
 }

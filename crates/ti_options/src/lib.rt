@@ -5,44 +5,25 @@
 // the system.
 #![tactic(auto)]
 
-ghost use Rattle.std.specs.Prelude.{◌≡◌, true, ◌+◌, ◌<◌};
+ghost use Rattle.std.specs.Prelude.{◌≡◌, true, ◌+◌, ◌<◌, IfOk};
 ghost use Rattle.edition.specs.Edition.{ok_edition};
 ghost use Rattle.names.specs.Names.{second_edition};
 ghost use Rattle.ti_options.specs.Steps.{words_of};
 
 use edition::Edition;
-use edition_words::EditionWord;
 use option_words::{OwnOption, WordKind};
-use ti_common::complain;
 use ti_common::output::complain_quoted;
-use ti_common::words::Words;
+use ti_common::words::{Words, misuse, word_or_none};
+use ti_common::{Stop, complain};
 
-// How the options are.
-#[derive(Clone, Copy)]
-pub enum Outcome {
-    Taken,
-    // an option that is unknown, an edition's word that is missing or wrong, or a missing name, which was said
-    Wrong,
-    // the edition is too large, which was not said
-    Large,
-}
-
-// The description that is wanted.
-#[derive(Clone, Copy)]
-pub enum Wanted {
-    // the text's first
-    First,
-    // the one that the word at the place names
-    Named(u16),
-}
-
-// What the options are: whether the flag stood among them, the edition, what is wanted, and the words behind them.
+// What the options are, and the words behind them.
 #[derive(Clone, Copy)]
 pub struct Options {
-    pub outcome: Outcome,
+    // the flag stood among them
     pub is_set: bool,
     pub edition: Edition,
-    pub wanted: Wanted,
+    // the place of the word that names the description that is wanted; none where it is the text's first
+    pub wanted: Option<u16>,
     pub words: Words,
 }
 
@@ -56,7 +37,6 @@ enum Step {
     Edition(Edition),
     // `-n` and its word
     Name,
-    Wrong,
 }
 
 // The most words of options.
@@ -70,152 +50,110 @@ fn default_edition() -> Edition
 }
 
 // Says that an option is unknown.
-fn wrong_option(rt: HostRuntime, word: &[u8]) -> Step {
+fn wrong_option(rt: HostRuntime, word: &[u8]) -> Stop {
     complain(rt, b"ti: unknown option ");
     complain_quoted(rt, word);
     complain(rt, b"\n");
-    Step::Wrong
+    Stop::Failed
 }
 
 // Says that no edition stands behind -e.
-fn wrong_edition(rt: HostRuntime, word: &[u8]) -> Step {
+fn wrong_edition(rt: HostRuntime, word: &[u8]) -> Stop {
     complain(rt, b"ti: ");
     complain_quoted(rt, word);
     complain(rt, b" names no edition: 1, 2 or B,N,S\n");
-    Step::Wrong
-}
-
-// The edition that a word names.
-fn edition_of(rt: HostRuntime, word: &[u8]) -> Step {
-    match edition_words::parse(word) {
-        EditionWord::Given(edition) => Step::Edition(edition),
-        EditionWord::Wrong => wrong_edition(rt, word),
-    }
+    Stop::Failed
 }
 
 // The edition that the word at a place behind -e names.
-fn edition_at(rt: HostRuntime, place: usize) -> Step {
+fn edition_at(rt: HostRuntime, place: usize) -> Result<Edition, Stop> {
     if ti_common::words::count_all(rt) <= place {
         complain(rt, b"ti: no edition stands behind -e: 1, 2 or B,N,S\n");
-        return Step::Wrong;
+        return Err(Stop::Failed);
     }
     let mut word = io::buffer();
-    let n = ti_common::words::word_or_none(rt, place, &mut word);
-    edition_of(rt, &word[..n])
+    let word = word_or_none(rt, place, &mut word);
+    match edition_words::parse(word) {
+        Some(edition) => Ok(edition),
+        None => Err(wrong_edition(rt, word)),
+    }
 }
 
-// The name that stands at a place behind -n.
-fn name_at(rt: HostRuntime, place: usize) -> Step {
+// Expects a name at a place behind -n.
+fn expect_name(rt: HostRuntime, place: usize) -> Result<(), Stop> {
     if ti_common::words::count_all(rt) <= place {
         complain(rt, b"ti: no name stands behind -n\n");
-        return Step::Wrong;
+        return Err(Stop::Failed);
     }
-    Step::Name
+    Ok(())
 }
 
 // What stands at a place among all words; says what is wrong.
-fn step_at(rt: HostRuntime, place: u16, own: OwnOption) -> Step {
+fn step_at(rt: HostRuntime, place: u16, own: OwnOption) -> Result<Step, Stop> {
     let mut word = io::buffer();
-    let n = ti_common::words::word_or_none(rt, place as usize, &mut word);
-    match option_words::kind_of(&word[..n], own) {
-        WordKind::Operand => Step::Operand,
-        WordKind::End => Step::End,
-        WordKind::Flag => Step::Flag,
-        WordKind::Edition => edition_at(rt, place as usize + 1),
-        WordKind::Name => name_at(rt, place as usize + 1),
-        WordKind::Unknown => wrong_option(rt, &word[..n]),
+    let word = word_or_none(rt, place as usize, &mut word);
+    let behind = place as usize + 1;
+    match option_words::kind_of(word, own) {
+        WordKind::Operand => Ok(Step::Operand),
+        WordKind::End => Ok(Step::End),
+        WordKind::Flag => Ok(Step::Flag),
+        WordKind::Edition => Ok(Step::Edition(edition_at(rt, behind)?)),
+        WordKind::Name => {
+            expect_name(rt, behind)?;
+            Ok(Step::Name)
+        }
+        WordKind::Unknown => Err(wrong_option(rt, word)),
     }
 }
 
 // The place behind what stands at a place.
+#[tactic(auto, unfolding(crate::specs::Steps::words_of))]
 fn behind(step: Step, place: u16) -> u16
     requires { place < 1000 }
     ensures { (result ≡ place + words_of step) × (place < result) }
 {
     match step {
-        Step::Operand => place + 1,
-        Step::End => place + 1,
-        Step::Flag => place + 1,
+        Step::Operand | Step::End | Step::Flag => place + 1,
         Step::Edition(_) => place + 2,
         Step::Name => place + 2,
-        Step::Wrong => place + 1,
     }
 }
 
-// The words from a place on.
-fn words_from(words: Words, first: u16) -> Words {
-    let task = words.task;
-    let is_terminal = words.is_terminal;
-    Words {
-        first,
-        task,
-        is_terminal,
-    }
-}
-
-// Options that are not taken.
-fn stopped(words: Words, outcome: Outcome) -> Options
-    ensures { ok_edition result.edition ≡ true }
-{
-    let edition = default_edition();
-    Options {
-        outcome,
+// The options that stand before the operands; of several -e the last counts, and of several -n. Says what is wrong.
+fn options_of(rt: HostRuntime, words: Words, own: OwnOption) -> Result<Options, Stop> {
+    let mut options = Options {
         is_set: false,
-        edition,
-        wanted: Wanted::First,
+        edition: default_edition(),
+        wanted: None,
         words,
-    }
-}
-
-// The options, by their edition, before the words from a place on.
-fn taken(words: Words, first: u16, is_set: bool, edition: Edition, wanted: Wanted) -> Options
-    ensures { ok_edition result.edition ≡ true }
-{
-    if !edition::edition_ok(edition) {
-        return stopped(words, Outcome::Large);
-    }
-    Options {
-        outcome: Outcome::Taken,
-        is_set,
-        edition,
-        wanted,
-        words: words_from(words, first),
-    }
-}
-
-// Takes the options that stand before the operands; of several -e the last counts, and of several -n.
-pub fn take(rt: HostRuntime, words: Words, own: OwnOption) -> Options
-    ensures { ok_edition result.edition ≡ true }
-{
-    let mut first = words.first;
-    let mut is_set = false;
-    let mut edition = default_edition();
-    let mut wanted = Wanted::First;
-    while first < OPTIONS_END {
-        let step = step_at(rt, first, own);
-        let next = behind(step, first);
+    };
+    // A cursor that moves by an option's words: no range counts it.
+    while options.words.first < OPTIONS_END {
+        let place = options.words.first;
+        let step = step_at(rt, place, own)?;
+        let next = behind(step, place);
         match step {
-            Step::Operand => {
-                return taken(words, first, is_set, edition, wanted);
-            }
+            Step::Operand => return Ok(options),
             Step::End => {
-                return taken(words, next, is_set, edition, wanted);
+                options.words.first = next;
+                return Ok(options);
             }
-            Step::Flag => {
-                is_set = true;
-            }
-            Step::Edition(given) => {
-                edition = given;
-            }
-            Step::Name => {
-                let place = first + 1;
-                wanted = Wanted::Named(place);
-            }
-            Step::Wrong => {
-                return stopped(words, Outcome::Wrong);
-            }
+            Step::Flag => options.is_set = true,
+            Step::Edition(given) => options.edition = given,
+            Step::Name => options.wanted = Some(place + 1),
         }
-        first = next;
+        options.words.first = next;
     }
-    stopped(words, Outcome::Wrong)
+    Err(Stop::Failed)
+}
+
+// Takes a command's options; says what is wrong, and then how the command is called or that the edition is too large.
+pub fn take(rt: HostRuntime, words: Words, own: OwnOption, usage: &[u8]) -> Result<Options, Stop>
+    ensures { IfOk result (λ o. ok_edition o.edition ≡ true) }
+{
+    match options_of(rt, words, own) {
+        Ok(options) if edition::edition_ok(options.edition) => Ok(options),
+        Ok(_) => Err(ti_refusals::refuse_edition(rt)),
+        Err(_) => Err(misuse(rt, usage)),
+    }
 }

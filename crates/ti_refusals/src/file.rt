@@ -2,8 +2,7 @@
 use bad_slots::BadSlot;
 use edition::{Edition, Kind, Place};
 use entry::FileRefusal;
-use names::Name;
-use ti_common::{complain, complain_number};
+use ti_common::complain;
 
 // Room for a capability's name.
 const NAME_ROOM: usize = 28;
@@ -16,13 +15,6 @@ fn is_known(edition: Edition, kind: Kind, place: Place) -> bool {
     }
 }
 
-fn has_name(kind: Kind, place: Place) -> bool {
-    match names::name_of(kind, place) {
-        Name::Packed(_) => true,
-        Name::Beyond => false,
-    }
-}
-
 fn complain_name(rt: HostRuntime, kind: Kind, place: Place) {
     let mut name = [0u8; NAME_ROOM];
     let n = show_names::put_named(&mut name, kind, place, b"");
@@ -31,12 +23,11 @@ fn complain_name(rt: HostRuntime, kind: Kind, place: Place) {
 
 // Says whose slot it is: the capability's name, if the edition knows it and it has one, else the place in the list.
 fn complain_place(rt: HostRuntime, edition: Edition, kind: Kind, place: Place) {
-    if is_known(edition, kind, place) & has_name(kind, place) {
+    if is_known(edition, kind, place) && names::name_of(kind, place).is_some() {
         complain(rt, b" of ");
         complain_name(rt, kind, place);
     } else {
-        complain(rt, b" ");
-        complain_number(rt, place.0);
+        let _ = eprint!(rt; " {}", place.0);
     }
 }
 
@@ -51,9 +42,9 @@ fn complain_list(rt: HostRuntime, kind: Kind) {
 // Says which byte or slot is bad.
 fn complain_slot(rt: HostRuntime, file: &[u8], edition: Edition, why: FileRefusal) {
     match bad_slots::slot_at(file, why) {
-        BadSlot::None => complain(rt, b"a slot"),
-        BadSlot::Pad => complain(rt, b"the pad byte"),
-        BadSlot::Slot(kind, place) => {
+        None => complain(rt, b"a slot"),
+        Some(BadSlot::Pad) => complain(rt, b"the pad byte"),
+        Some(BadSlot::Slot(kind, place)) => {
             complain_list(rt, kind);
             complain_place(rt, edition, kind, place);
         }
@@ -63,9 +54,9 @@ fn complain_slot(rt: HostRuntime, file: &[u8], edition: Edition, why: FileRefusa
 // What is wrong with a boolean or the pad.
 fn complain_boolean(rt: HostRuntime, file: &[u8], why: FileRefusal) {
     match bad_slots::slot_at(file, why) {
-        BadSlot::None => complain(rt, b" is bad"),
-        BadSlot::Pad => complain(rt, b" is not 0"),
-        BadSlot::Slot(_, _) => complain(rt, b" is none of 0, 1 and 254"),
+        None => complain(rt, b" is bad"),
+        Some(BadSlot::Pad) => complain(rt, b" is not 0"),
+        Some(BadSlot::Slot(_, _)) => complain(rt, b" is none of 0, 1 and 254"),
     }
 }
 

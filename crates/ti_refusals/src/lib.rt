@@ -4,21 +4,21 @@
 
 ghost use Rattle.std.specs.Prelude.{◌≡◌};
 ghost use Rattle.entry.specs.Asking.{opening};
-ghost use Rattle.entry.specs.Says.{says_opened};
+ghost use Rattle.entry.specs.Says.{says_file};
 
 use edition::Edition;
-use entry::{FileRefusal, Opened};
-use names::Found;
-use text::Compiled;
+use entry::{FileRefusal, Opening};
+use refusal_numbers::Refusal;
+use text::CompileRefusal;
 use ti_common::output::complain_quoted;
-use ti_common::{Status, complain, complain_number};
+use ti_common::{Stop, complain};
 
 mod file;
 
 // Begins a message: the name of what is refused, where `-` is standard input.
 pub fn begin(rt: HostRuntime, path: &[u8]) {
     complain(rt, b"ti: ");
-    if ti_common::words::is_same(path, b"-") {
+    if matches!(path, b"-") {
         complain(rt, b"standard input");
     } else {
         complain(rt, path);
@@ -26,25 +26,19 @@ pub fn begin(rt: HostRuntime, path: &[u8]) {
 }
 
 // Ends a message with document 01's number.
-pub fn end(rt: HostRuntime, number: u8) -> Status {
-    complain(rt, b" (refusal ");
-    complain_number(rt, number as usize);
-    complain(rt, b")\n");
-    Status::Refused
+pub fn end(rt: HostRuntime, number: u8) -> Stop {
+    let _ = eprint!(rt; " (refusal {number})\n");
+    Stop::Refused
 }
 
 // Ends a message with the number and a byte, counted from 0.
-pub fn end_at(rt: HostRuntime, number: u8, place: usize) -> Status {
-    complain(rt, b" (refusal ");
-    complain_number(rt, number as usize);
-    complain(rt, b", byte ");
-    complain_number(rt, place);
-    complain(rt, b")\n");
-    Status::Refused
+pub fn end_at(rt: HostRuntime, number: u8, place: usize) -> Stop {
+    let _ = eprint!(rt; " (refusal {number}, byte {place})\n");
+    Stop::Refused
 }
 
 // Says a refusal that gives no byte.
-pub fn refuse(rt: HostRuntime, path: &[u8], sentence: &[u8], number: u8) -> Status {
+pub fn refuse(rt: HostRuntime, path: &[u8], sentence: &[u8], number: u8) -> Stop {
     begin(rt, path);
     complain(rt, b": ");
     complain(rt, sentence);
@@ -52,39 +46,26 @@ pub fn refuse(rt: HostRuntime, path: &[u8], sentence: &[u8], number: u8) -> Stat
 }
 
 // Says that there is too little room, and how many bytes are needed.
-pub fn refuse_room(rt: HostRuntime, path: &[u8], needed: usize, number: u8) -> Status {
+pub fn refuse_room(rt: HostRuntime, path: &[u8], needed: usize, number: u8) -> Stop {
     begin(rt, path);
-    complain(rt, b": too little room for the output, which needs ");
-    complain_number(rt, needed);
-    complain(rt, b" bytes");
+    let _ = eprint!(rt; ": too little room for the output, which needs {needed} bytes");
     end(rt, number)
 }
 
 // Says that the edition is too large.
-pub fn refuse_edition(rt: HostRuntime) -> Status {
-    complain(rt, b"ti: the edition is too large: at most ");
-    complain_number(rt, edition::BOOLEANS_MOST);
-    complain(rt, b" booleans, ");
-    complain_number(rt, edition::NUMBERS_MOST);
-    complain(rt, b" numbers, ");
-    complain_number(rt, edition::STRINGS_MOST);
-    complain(rt, b" strings");
-    end(rt, refusal_numbers::of_compiled(Compiled::Edition))
-}
-
-// Whether a capability of some edition has the name.
-fn is_capability(name: &[u8]) -> bool {
-    match lookup::find(name, names::SECOND_EDITION) {
-        Found::Boolean(_) => true,
-        Found::Number(_) => true,
-        Found::String(_) => true,
-        Found::Unknown => false,
-    }
+pub fn refuse_edition(rt: HostRuntime) -> Stop {
+    let _ = eprint!(rt;
+        "ti: the edition is too large: at most {} booleans, {} numbers, {} strings",
+        edition::BOOLEANS_MOST,
+        edition::NUMBERS_MOST,
+        edition::STRINGS_MOST
+    );
+    end(rt, CompileRefusal::Edition.number())
 }
 
 // Says that no capability has the name, or that the edition knows none of it.
 pub fn complain_unknown(rt: HostRuntime, name: &[u8]) {
-    if is_capability(name) {
+    if lookup::find(name, names::SECOND_EDITION).is_some() {
         complain_quoted(rt, name);
         complain(rt, b" is not in the edition");
     } else {
@@ -94,7 +75,7 @@ pub fn complain_unknown(rt: HostRuntime, name: &[u8]) {
 }
 
 // Refuses a name that the edition knows no capability of.
-pub fn refuse_unknown(rt: HostRuntime, path: &[u8], name: &[u8], number: u8) -> Status {
+pub fn refuse_unknown(rt: HostRuntime, path: &[u8], name: &[u8], number: u8) -> Stop {
     begin(rt, path);
     complain(rt, b": ");
     complain_unknown(rt, name);
@@ -108,33 +89,28 @@ pub fn refuse_file(
     file: &[u8],
     edition: Edition,
     why: FileRefusal,
-) -> Status {
+) -> Stop {
     begin(rt, path);
     complain(rt, b": ");
     file::complain_file(rt, file, edition, why);
-    let number = refusal_numbers::of_file(why);
-    let position = refusal_numbers::position(why);
-    if position == 0 {
-        return end(rt, number);
+    if why.value() == 0 {
+        return end(rt, why.number());
     }
-    end_at(rt, number, position)
-}
-
-// Says why a file is refused, if it is.
-fn complain_opened(rt: HostRuntime, path: &[u8], file: &[u8], edition: Edition, opened: Opened) {
-    match opened {
-        Opened::Entry(_, _) => {}
-        Opened::Refused(why) => {
-            refuse_file(rt, path, file, edition, why);
-        }
-    }
+    end_at(rt, why.number(), why.value())
 }
 
 // Opens a file in an edition; says why, where it is refused.
-pub fn open(rt: HostRuntime, path: &[u8], file: &[u8], edition: Edition) -> Opened
-    ensures { says_opened result ≡ opening edition file.now }
+pub fn open(
+    rt: HostRuntime,
+    path: &[u8],
+    file: &[u8],
+    edition: Edition,
+) -> Result<Opening, FileRefusal>
+    ensures { says_file result ≡ opening edition file.now }
 {
-    let opened = read::open(file, edition);
-    complain_opened(rt, path, file, edition, opened);
-    opened
+    let answer = read::open(file, edition);
+    if let Err(why) = answer {
+        refuse_file(rt, path, file, edition, why);
+    }
+    answer
 }

@@ -4,50 +4,44 @@
 // Proved: it is safe and ends. Assumed: what std says of the system.
 #![tactic(auto)]
 
-ghost use Rattle.io.specs.Counts.{IsPrefixLen};
+ghost use Rattle.std.specs.Prelude.{◌≤◌, length};
 
 use edition::Place;
-use entry::{NumberState, StringState};
-use expansion::Expansion;
+use entry::{Part, State};
+use expansion::{ExpansionRefusal, Output};
 use std::io::Read;
 
 fn say(rt: HostRuntime, bytes: &[u8]) {
     let _ = rt.stdout().write_all(bytes);
 }
 
-fn say_number(rt: HostRuntime, word: &[u8], n: usize) {
-    say(rt, word);
-    let _ = rt.stdout().print(n);
-    say(rt, b"\n");
-}
-
-fn say_lines(rt: HostRuntime, lines: NumberState) {
-    if let NumberState::Present(n) = lines {
-        say_number(rt, b"\nlines ", n as usize);
+fn say_lines(rt: HostRuntime, lines: Option<State<u32>>) {
+    if let Some(State::Present(n)) = lines {
+        let _ = print!(rt; "\nlines {n}\n");
     }
 }
 
 // Says why there is no cup to expand, where there is none.
-fn say_missing(rt: HostRuntime, cup: StringState) {
+fn say_missing(rt: HostRuntime, cup: Option<State<Part>>) {
     match cup {
-        StringState::Present(_) => {}
-        StringState::Absent => say(rt, b"cup is absent"),
-        StringState::Cancelled => say(rt, b"cup is cancelled"),
-        StringState::Refused => say(rt, b"cup can't be asked for"),
+        Some(State::Present(_)) => {}
+        Some(State::Absent) => say(rt, b"cup is absent"),
+        Some(State::Cancelled) => say(rt, b"cup is cancelled"),
+        None => say(rt, b"cup can't be asked for"),
     }
 }
 
-fn say_expansion(rt: HostRuntime, out: &[u8], answer: Expansion) {
-    if let Expansion::Done { length, steps } = answer {
+fn say_expansion(rt: HostRuntime, out: &[u8], answer: Result<Output, ExpansionRefusal>) {
+    if let Ok(Output { length, steps }) = answer {
         if length <= out.len() {
             say(rt, &out[..length]);
         }
-        say_number(rt, b"\nsteps ", steps);
+        let _ = print!(rt; "\nsteps {steps}\n");
     }
 }
 
 // Opens, asks, expands into out.
-fn visit(rt: HostRuntime, file: &[u8], out: &mut [u8]) -> Expansion {
+fn visit(rt: HostRuntime, file: &[u8], out: &mut [u8]) -> Result<Output, ExpansionRefusal> {
     let entry = terminfo::open(file, names::SECOND_EDITION);
     let names = terminfo::names_part(entry);
     say(rt, names.bytes);
@@ -64,26 +58,25 @@ fn visit(rt: HostRuntime, file: &[u8], out: &mut [u8]) -> Expansion {
     )
 }
 
-// Reads standard input until the slice is full, the input ends or a read fails; how many bytes were put at its start.
-fn read_full(rt: HostRuntime, bytes: &mut [u8]) -> usize
-    ensures { IsPrefixLen result bytes.new }
+// Reads standard input until the slice is full, the input ends or a read fails; the bytes put at its start.
+fn read_full(rt: HostRuntime, bytes: &mut [u8]) -> &[u8]
+    ensures { length result.now ≤ length bytes.old }
 {
     let mut from = rt.stdin();
     let mut n = 0;
+    // A cursor that moves by what a read puts: no range counts it.
     while n < bytes.len() {
         match from.read(&mut bytes[n..]) {
-            Ok(0) => return n,
+            Ok(0) | Err(_) => break,
             Ok(more) => n += more,
-            Err(_) => return n,
         }
     }
-    n
+    &bytes[..n]
 }
 
 fn main(rt: HostRuntime) {
     let mut file = io::buffer();
-    let n = read_full(rt, &mut file);
     let mut out = [0u8; 64];
-    let answer = visit(rt, &file[..n], &mut out);
+    let answer = visit(rt, read_full(rt, &mut file), &mut out);
     say_expansion(rt, &out, answer);
 }

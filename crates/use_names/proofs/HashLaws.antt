@@ -21,7 +21,7 @@ use Rattle.text.specs.Heading.{names_in}
 use Rattle.text.specs.Building.{all_but_last, is_among, has_name}
 use Rattle.use_names.specs.Searched.{names_of}
 use Rattle.use_names.specs.Hashed.{hashes_count, hash_more, hash_from, hash_of, Firsts, Enters}
-use Rattle.use_names.proofs.NameLaws.{Some, names_some}
+use Rattle.use_names.proofs.NameLaws.{HasFirst, names_some}
 
 -- ---- the hashes of a header's names
 
@@ -36,7 +36,7 @@ is_met_in x h [] = false
 is_met_in x h (n ∷ []) = false
 is_met_in x h (n ∷ m ∷ ns) = eqb x (hash_from h n) || is_met_in x 0 (m ∷ ns)
 
-met_bar : (x h : ℕ) (ns : List (List ℕ)) → Some ns → is_met_in x h ([] ∷ ns) ≡ (eqb x h || is_met_in x 0 ns)
+met_bar : (x h : ℕ) (ns : List (List ℕ)) → HasFirst ns → is_met_in x h ([] ∷ ns) ≡ (eqb x h || is_met_in x 0 ns)
 unfolding is_met_in hash_from
 met_bar x h ns r = rw r.2
 

@@ -1,6 +1,6 @@
 -- The description that has a name: the first whose header has it; a name that no header can have.
 -- Assumes nothing.
-use mathlib.Core.Path.{◌≡◌, refl, sym, ap, ◌∙◌, subst}
+use mathlib.Core.Path.{◌≡◌, refl, sym, ap, ◌∙◌}
 use mathlib.Core.Bool.{Bool, true, false, ◌||◌, not}
 use mathlib.Core.List.{List, [], ◌∷◌}
 use mathlib.Core.Logic.{◌⊎◌, ⊎_elim}
@@ -17,15 +17,15 @@ use Rattle.edition.specs.declared.Edition.{Edition}
 use Rattle.names.specs.Lookup.{same_bytes}
 use Rattle.names.proofs.LookupLaws.{same_eq}
 use Rattle.text.specs.declared.ByteClass.TheVariants as C
-use Rattle.text.specs.declared.Header.TheVariants.{Right, Malformed, LongAlias}
+use Rattle.text.specs.declared.TextRefusal.{TextRefusal}
+use Rattle.text.specs.declared.TextRefusal.TheVariants.{Malformed, Limit}
 use Rattle.text.specs.Bytes.{is_in, run_end}
 use Rattle.text.specs.Heading.{alias_most, names_in, made_of, right_names, long_alias, line_ends, names_to, header_at}
 use Rattle.text.specs.Describing.{Description}
 use Rattle.text.specs.Building.{all_but_last, is_among, has_name, nobody, numbered, having_from, having, description_at}
 use Rattle.text_laws.specs.HeadingLaws.{header_right}
 use Rattle.compile_laws.specs.Listed.{Listed}
-use Rattle.use_names.specs.declared.Named.{Named}
-use Rattle.use_names.specs.declared.Named.TheVariants as N
+use Rattle.std.specs.Prelude.{Option, None, Some, IfSome, Result, Ok, Err}
 use Rattle.use_names.specs.Having.{says_named}
 use Rattle.use_names.specs.Searched.{names_of, NoneFrom, FoundFrom}
 
@@ -58,10 +58,10 @@ none_more t heads commas n first d h f j l m =
     (λ k. let e : j ≡ d = omega arith in ap (λ (j : ℕ). has_name n (names_of t heads commas j)) e ∙ f)
 
 -- what was found is a description
-pub found_below : (t heads commas : List ℕ) (count : ℕ) (n : List ℕ) (first : ℕ) (r : Named)
-    → FoundFrom r t heads commas count n first → (d : ℕ) → r ≡ N.Numbered d → d < count
-found_below t heads commas count n first r f d e =
-    (subst (λ (r : Named). FoundFrom r t heads commas count n first) e f).0
+pub found_below : (t heads commas : List ℕ) (count : ℕ) (n : List ℕ) (first : ℕ) (r : Option ℕ)
+    → FoundFrom r t heads commas count n first → IfSome r (λ d. d < count)
+found_below t heads commas count n first None f = tt
+found_below t heads commas count n first (Some d) f = f.0
 
 -- ---- a name but the last of a right header has 1 to 14 bytes
 
@@ -101,7 +101,7 @@ module _ (n : List ℕ) where
       (alias_length (k ∷ l ∷ ns) (and_right (made_of C.Alias m) (right_names (k ∷ l ∷ ns)) r) p.1)
 
 -- a header that is right has no long alias
-header_short : (t : List ℕ) (i c : ℕ) → header_at t i ≡ Right c → long_alias (names_in (names_to t i c)) ≡ false
+header_short : (t : List ℕ) (i c : ℕ) → header_at t i ≡ Ok c → long_alias (names_in (names_to t i c)) ≡ false
 unfolding header_at
 header_short t i c e =
     by_tests (leb (length t) r) (right_names (names_in (names_to t i r))) (line_ends t (run_end C.Blank t (r + 1)))
@@ -112,17 +112,17 @@ header_short t i c e =
     r : ℕ
     r = run_end C.Header t i
 
-    clash : {A : Type 0} → ◌≡◌ {A = ℕ} 0 1 → A
-    clash z = absurd (omega arith)
+    clash : {A : Type 0} {w : TextRefusal} → ◌≡◌ {A = Result ℕ TextRefusal} (Err w) (Ok c) → A
+    clash q = absurd (let z : ◌≡◌ {A = ℕ} 0 1 = cc in (let y : ⊥ = omega arith in y))
 
     by_tests : (past names ends long : Bool) → long_alias (names_in (names_to t i r)) ≡ long
-        → (when past then Malformed else when not names then Malformed else when not ends then Malformed
-        else when long then LongAlias else Right r) ≡ Right c
+        → (when past then Err Malformed else when not names then Err Malformed else when not ends then Err Malformed
+        else when long then Err Limit else Ok r) ≡ Ok c
         → long_alias (names_in (names_to t i c)) ≡ false
-    by_tests true names ends long q h = clash (cc)
-    by_tests false false ends long q h = clash (cc)
-    by_tests false true false long q h = clash (cc)
-    by_tests false true true true q h = clash (cc)
+    by_tests true names ends long q h = clash h
+    by_tests false false ends long q h = clash h
+    by_tests false true false long q h = clash h
+    by_tests false true true true q h = clash h
     by_tests false true true false q h =
         let k : c ≡ r = cc in ap (λ (k : ℕ). long_alias (names_in (names_to t i k))) k ∙ q
 
@@ -136,11 +136,11 @@ module _ (e : Edition) (t heads commas : List ℕ) (count : ℕ) (ds : List Desc
   -- what a search from a description on finds, where none before it has the name
   pub found_having : (first : ℕ)
       → ((d : ℕ) → d < count → d < first → has_name n (names_of t heads commas d) ≡ false)
-      → (r : Named) → FoundFrom r t heads commas count n first → says_named r ≡ having n ds
-  found_having first before N.Nobody f =
+      → (r : Option ℕ) → FoundFrom r t heads commas count n first → says_named r ≡ having n ds
+  found_having first before None f =
       sym (having_none n 0 ds λ d l. let m : d < count = rw listed.counted at l in
       names_of_lem d m ∙ below_or d first (λ k. before d m k) (λ k. f d k m))
-  found_having first before (N.Numbered d) f =
+  found_having first before (Some d) f =
       let l = f.0 in
       sym (having_at n 0 ds d (rw listed.counted l)
       (λ j k. let o : j < count = omega arith in

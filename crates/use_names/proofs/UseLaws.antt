@@ -12,8 +12,7 @@ use Rattle.text.specs.Heading.{alias_most}
 use Rattle.text.specs.Strings.{Read, whole, malformed, read_at, read_bytes}
 use Rattle.text.specs.Describing.{Description}
 use Rattle.text.specs.Building.{having}
-use Rattle.used_name.specs.declared.Used.{Used}
-use Rattle.used_name.specs.declared.Used.TheVariants as U
+use Rattle.std.specs.Prelude.{Option, None, Some}
 use Rattle.used_name.specs.Reads.{ReadsName}
 use Rattle.compile_laws.specs.Listed.{used_name, target_of, Targets}
 
@@ -26,13 +25,13 @@ unfolding read_bytes
 long_or_empty (whole s k) h = inr (h (λ e. let z : ◌≡◌ {A = ℕ} 0 1 = cc in (let y : ⊥ = omega arith in y)))
 long_or_empty malformed h = inl refl
 
-module _ (u : Used) (t : List ℕ) (start : ℕ) (name : List ℕ) (h : ReadsName u t start name) where
-  pub reads_name : (n : ℕ) → u ≡ U.Name n → (n ≤ alias_most) × (take n name ≡ read_bytes (read_at t start))
-  reads_name n e = subst (λ (u : Used). ReadsName u t start name) e h
+module _ (u : Option ℕ) (t : List ℕ) (start : ℕ) (name : List ℕ) (h : ReadsName u t start name) where
+  pub reads_name : (n : ℕ) → u ≡ Some n → (n ≤ alias_most) × (take n name ≡ read_bytes (read_at t start))
+  reads_name n e = subst (λ (u : Option ℕ). ReadsName u t start name) e h
 
-  pub reads_long : u ≡ U.Long
+  pub reads_long : u ≡ None
       → (length (read_bytes (read_at t start)) ≡ 0) ⊎ (alias_most < length (read_bytes (read_at t start)))
-  reads_long e = long_or_empty (read_at t start) (subst (λ (u : Used). ReadsName u t start name) e h)
+  reads_long e = long_or_empty (read_at t start) (subst (λ (u : Option ℕ). ReadsName u t start name) e h)
 
 -- ---- one target more
 

@@ -1,9 +1,8 @@
 -- What looking for a description's name answers.
 -- Assumes nothing.
+use Rattle.std.specs.Prelude.{ℕ, Option, None, Some}
 use Rattle.text.specs.Building.{Having, nobody, numbered}
-use Rattle.use_names.specs.declared.Named.{Named}
-use Rattle.use_names.specs.declared.Named.TheVariants as N
 
-abbrev pub says_named : Named → Having
-says_named N.Nobody = nobody
-says_named (N.Numbered d) = numbered d
+abbrev pub says_named : Option ℕ → Having
+says_named None = nobody
+says_named (Some d) = numbered d

@@ -5,114 +5,41 @@
 // description with such a name, and the search for a use's name starts there.
 #![tactic(auto)]
 
-ghost use Rattle.std.specs.Prelude.{◌≡◌, List, ◌≤◌, ◌<◌, length};
+ghost use Rattle.std.specs.Prelude.{◌≡◌, List, ◌≤◌, ◌<◌, length, IfSome};
 ghost use Rattle.edition.specs.declared.Edition.{Edition};
-ghost use Rattle.names.specs.Lookup.{same_bytes};
 ghost use Rattle.text.specs.Strings.{read_at, read_bytes};
 ghost use Rattle.text.specs.Describing.{Description, descriptions_most};
 ghost use Rattle.text.specs.Building.{has_name, having};
-ghost use Rattle.compile_laws.specs.Listed.{Listed, HeadsIn, target_of, Targets};
+ghost use Rattle.compile_laws.specs.Listed.{Listed, HeadsIn, Targets};
 ghost use Rattle.use_names.specs.Having.{says_named};
-ghost use Rattle.use_names.specs.Searched.{BarFrom, FoundFrom};
+ghost use Rattle.use_names.specs.Searched.{BarOf, names_of, FoundFrom};
 ghost use Rattle.use_names.specs.Hashed.{hashes_count, hash_more, hash_of, Firsts, Enters};
 
 use text::ALIAS_MOST;
-use used_name::Used;
 use uses::NO_TARGET;
 
 // How many hashes there are.
 const HASHES: usize = 4096;
 
-// The description that has a name.
-#[derive(Clone, Copy)]
-pub enum Named {
-    Nobody,
-    // its number in the text
-    Numbered(usize),
-}
-
-// Two names have the same bytes.
-fn is_same(a: &[u8], b: &[u8]) -> bool
-    ensures { result ≡ same_bytes a.now b.now }
+// The first bar of the names.
+fn bar_of(names: &[u8]) -> Option<usize>
+    ensures { BarOf names.now result }
 {
-    if a.len() != b.len() {
-        return false;
-    }
-    let mut i = 0;
-    while i < a.len() {
-        if a[i] != b[i] {
-            return false;
-        }
-        i += 1;
-    }
-    true
-}
-
-// The first bar from a place on, or the names' end.
-fn bar_from(names: &[u8], at: usize) -> usize
-    requires { at ≤ length names.now }
-    ensures { BarFrom names.now at result }
-{
-    let mut i = at;
-    while i < names.len() {
-        if names[i] == b'|' {
-            return i;
-        }
-        i += 1;
-    }
-    i
+    names.iter().position(|b| *b == b'|')
 }
 
 // The names of a header have the name, as one that isn't the last.
 pub fn has_name(names: &[u8], name: &[u8]) -> bool
     ensures { result ≡ has_name name.now names.now }
 {
-    let mut at = 0;
-    loop {
-        let bar = bar_from(names, at);
-        if names.len() <= bar {
-            return false;
-        }
-        if is_same(name, &names[at..bar]) {
+    let mut rest = names;
+    while let Some(bar) = bar_of(rest) {
+        if name == &rest[..bar] {
             return true;
         }
-        at = bar + 1;
+        rest = &rest[bar + 1..];
     }
-}
-
-// The first of the descriptions from one on that has a name.
-fn find_from(
-    text: &[u8],
-    heads: &[usize],
-    commas: &[usize],
-    count: usize,
-    name: &[u8],
-    first: usize,
-) -> Named
-    requires { HeadsIn text.now heads.now commas.now count }
-    ensures { FoundFrom result text.now heads.now commas.now count
-        name.now first }
-{
-    let mut d = first;
-    while d < count {
-        let head = heads[d];
-        let comma = commas[d];
-        if has_name(&text[head..comma], name) {
-            return Named::Numbered(d);
-        }
-        d += 1;
-    }
-    Named::Nobody
-}
-
-// The first of the descriptions that has a name.
-pub fn find(text: &[u8], heads: &[usize], commas: &[usize], count: usize, name: &[u8]) -> Named
-    requires { HeadsIn text.now heads.now commas.now count }
-    ensures { (e : Edition) (ds : List Description)
-        → Listed e text.now heads.now commas.now count ds
-        → says_named result ≡ having name.now ds }
-{
-    find_from(text, heads, commas, count, name, 0)
+    false
 }
 
 // The hash of a name's bytes so far and of one more. (Any factor would be right; this one parts usual names well.)
@@ -128,114 +55,120 @@ fn hash_of(name: &[u8]) -> usize
     ensures { (result ≡ hash_of name.now) × (result < hashes_count) }
 {
     let mut hash = 0;
-    let mut i = 0;
-    while i < name.len() {
-        hash = hash_more(hash, name[i]);
-        i += 1;
+    for b in name {
+        hash = hash_more(hash, *b);
     }
     hash
 }
 
 // Enters a description at the hashes of its names, the last apart.
-fn enter_names(names: &[u8], d: u8, firsts: &mut [u8])
+fn enter_names(names: &[u8], d: u8, firsts: &mut [u8; HASHES])
     requires { length firsts.old ≡ hashes_count }
     ensures { Enters names.now d firsts.old firsts.new }
 {
     let mut hash = 0;
-    let mut i = 0;
-    while i < names.len() {
-        if names[i] == b'|' {
+    for b in names {
+        if *b == b'|' {
             firsts[hash] = d;
             hash = 0;
         } else {
-            hash = hash_more(hash, names[i]);
+            hash = hash_more(hash, *b);
         }
-        i += 1;
     }
 }
 
-// Enters all descriptions, the last first: at a hash of several names stands the first description that has one.
-fn enter_all(text: &[u8], heads: &[usize], commas: &[usize], count: usize, firsts: &mut [u8])
-    requires { HeadsIn text.now heads.now commas.now count × ((count ≤ descriptions_most)
-        × (length firsts.old ≡ hashes_count)) }
-    ensures { Firsts text.now heads.now commas.now count
-        firsts.new 0 }
-{
-    let mut d = count;
-    while 0 < d {
-        d -= 1;
-        let head = heads[d];
-        let comma = commas[d];
-        enter_names(&text[head..comma], d as u8, firsts);
-    }
+// Where the headers of a text's descriptions stand: each begins at its head, and its names end at its comma.
+#[derive(Clone, Copy)]
+pub struct Headers<'a> {
+    pub text: &'a [u8],
+    pub heads: &'a [usize],
+    pub commas: &'a [usize],
+    // how many descriptions there are
+    pub count: usize,
+    pub ghost inside: { HeadsIn text.now heads.now commas.now count },
+    pub ghost few: { count ≤ descriptions_most },
 }
 
-// The number of the description that has a name, or NO_TARGET.
-fn target_of(
-    text: &[u8],
-    heads: &[usize],
-    commas: &[usize],
-    count: usize,
-    firsts: &[u8],
-    name: &[u8],
-) -> u8
-    requires { HeadsIn text.now heads.now commas.now count × ((count ≤ descriptions_most)
-        × Firsts text.now heads.now commas.now count firsts.now 0) }
-    ensures { (e : Edition) (ds : List Description)
-        → Listed e text.now heads.now commas.now count ds
-        → result ≡ target_of (having name.now ds) }
-{
-    let hash = hash_of(name);
-    let first = firsts[hash] as usize;
-    match find_from(text, heads, commas, count, name, first) {
-        Named::Nobody => NO_TARGET,
-        Named::Numbered(d) => d as u8,
+impl<'a> Headers<'a> {
+    // The names of the d-th description.
+    fn names(&self, d: usize) -> &'a [u8]
+        requires { d < self.now.count }
+        ensures { result.now ≡ names_of self.now.text.now self.now.heads.now self.now.commas.now d }
+    {
+        &self.text[self.heads[d]..self.commas[d]]
     }
-}
 
-// Where a use leads whose string starts at a place.
-fn target_at(
-    text: &[u8],
-    heads: &[usize],
-    commas: &[usize],
-    count: usize,
-    firsts: &[u8],
-    start: usize,
-) -> u8
-    requires { HeadsIn text.now heads.now commas.now count × ((count ≤ descriptions_most)
-        × Firsts text.now heads.now commas.now count firsts.now 0) }
-    ensures { (e : Edition) (ds : List Description)
-        → Listed e text.now heads.now commas.now count ds
-        → result ≡ target_of (having (read_bytes (read_at text.now start)) ds) }
-{
-    let mut name = [0u8; ALIAS_MOST];
-    match used_name::read(text, start, &mut name) {
-        Used::Name(n) => target_of(text, heads, commas, count, firsts, &name[..n]),
-        Used::Long => NO_TARGET,
+    // The first of the descriptions from one on that has a name.
+    fn find_from(&self, name: &[u8], first: usize) -> Option<usize>
+        ensures { FoundFrom result self.now.text.now self.now.heads.now self.now.commas.now self.now.count
+            name.now first }
+    {
+        for d in first..self.count {
+            if has_name(self.names(d), name) {
+                return Some(d);
+            }
+        }
+        None
     }
-}
 
-// Where the first of the uses lead, as many as there are: to the description that has the name, or NO_TARGET.
-pub fn resolve(
-    text: &[u8],
-    heads: &[usize],
-    commas: &[usize],
-    count: usize,
-    places: &[u16],
-    uses: usize,
-    targets: &mut [u8],
-)
-    requires { HeadsIn text.now heads.now commas.now count × ((count ≤ descriptions_most)
-        × ((uses ≤ length places.now) × (uses ≤ length targets.old))) }
-    ensures { (e : Edition) (ds : List Description)
-        → Listed e text.now heads.now commas.now count ds
-        → Targets text.now ds places.now targets.new uses }
-{
-    let mut firsts = [NO_TARGET; HASHES];
-    enter_all(text, heads, commas, count, &mut firsts);
-    let mut i = 0;
-    while i < uses {
-        targets[i] = target_at(text, heads, commas, count, &firsts, places[i] as usize + 4);
-        i += 1;
+    // The first of the descriptions that has a name.
+    pub fn find(&self, name: &[u8]) -> Option<usize>
+        ensures { (e : Edition) (ds : List Description)
+            → Listed e self.now.text.now self.now.heads.now self.now.commas.now self.now.count ds
+            → says_named result ≡ having name.now ds }
+    {
+        self.find_from(name, 0)
+    }
+
+    // Enters all descriptions, the last first: at a hash of several names stands the first description that has one.
+    fn enter_all(&self, firsts: &mut [u8; HASHES])
+        requires { length firsts.old ≡ hashes_count }
+        ensures { Firsts self.now.text.now self.now.heads.now self.now.commas.now self.now.count firsts.new 0 }
+    {
+        for d in (0..self.count).rev() {
+            enter_names(self.names(d), d as u8, firsts);
+        }
+    }
+
+    // The description that has a name, by the table.
+    fn find_entered(&self, firsts: &[u8; HASHES], name: &[u8]) -> Option<usize>
+        requires { Firsts self.now.text.now self.now.heads.now self.now.commas.now self.now.count firsts.now 0 }
+        ensures named { (e : Edition) (ds : List Description)
+            → Listed e self.now.text.now self.now.heads.now self.now.commas.now self.now.count ds
+            → says_named result ≡ having name.now ds }
+        ensures below { IfSome result (λ d. d < self.now.count) }
+    {
+        self.find_from(name, firsts[hash_of(name)] as usize)
+    }
+
+    // Where a use leads whose string starts at a place.
+    fn find_used(&self, firsts: &[u8; HASHES], start: usize) -> Option<usize>
+        requires { Firsts self.now.text.now self.now.heads.now self.now.commas.now self.now.count firsts.now 0 }
+        ensures named { (e : Edition) (ds : List Description)
+            → Listed e self.now.text.now self.now.heads.now self.now.commas.now self.now.count ds
+            → says_named result ≡ having (read_bytes (read_at self.now.text.now start)) ds }
+        ensures below { IfSome result (λ d. d < self.now.count) }
+    {
+        let mut name = [0u8; ALIAS_MOST];
+        let n = used_name::read(self.text, start, &mut name)?;
+        self.find_entered(firsts, &name[..n])
+    }
+
+    // Where the first of the uses lead, as many as there are: to the description that has the name, or NO_TARGET. (A
+    // number stands for none: an `Option` for each of 3,276 uses would take twice the memory.)
+    pub fn resolve(&self, places: &[u16], uses: usize, targets: &mut [u8])
+        requires { (uses ≤ length places.now) × (uses ≤ length targets.old) }
+        ensures { (e : Edition) (ds : List Description)
+            → Listed e self.now.text.now self.now.heads.now self.now.commas.now self.now.count ds
+            → Targets self.now.text.now ds places.now targets.new uses }
+    {
+        let mut firsts = [NO_TARGET; HASHES];
+        self.enter_all(&mut firsts);
+        for i in 0..uses {
+            targets[i] = match self.find_used(&firsts, places[i] as usize + 4) {
+                None => NO_TARGET,
+                Some(d) => d as u8,
+            };
+        }
     }
 }

@@ -1,21 +1,21 @@
 -- Laws of the walk's turns: what the next use comes to, and the turns before a description is entered.
 -- Assumes nothing.
-use mathlib.Core.Path.{◌≡◌, refl, sym, ap, ◌∙◌}
+use mathlib.Core.Path.{◌≡◌, sym, ap, ◌∙◌}
 use mathlib.Core.Bool.{true, false}
 use Prim.Native.Nat.{ℕ, ◌+◌, ◌≤◌, ◌<◌}
 use native.Mathlib.Omega.{arith}
 use lib.ListN.{length, get_or}
 use Rattle.base.specs.Answer.{map_answer}
 use Rattle.entry.specs.Reading.{Entry}
-use Rattle.text.specs.declared.TextRefusal.{TextRefusal}
 use Rattle.text.specs.declared.TextRefusal.TheVariants as R
+use Rattle.std.specs.Prelude.{Ok}
 use Rattle.uses.specs.Walk.{is_in}
-use Rattle.uses.specs.Heights.{height_of, low}
-use Rattle.use_turns.specs.Frames.{UseArrays, end_of, graph_of, HoldsUses, Frames, top_of, last_of, next_of, left_of}
-use Rattle.use_turns.specs.Frames.{open_of, Framed, kept_as, heights_of, resume_at, LeadsTo, finished, passed, entered}
+use Rattle.use_turns.specs.declared.Frames.{Frames}
+use Rattle.use_turns.specs.Frames.{UseArrays, end_of, HoldsUses, top_of, last_of, next_of, left_of}
+use Rattle.use_turns.specs.Frames.{open_of, Framed, resume_at, LeadsTo, passed, entered}
 use Rattle.use_turns.specs.declared.Next.TheVariants as N
 use Rattle.use_turns.specs.Weight.{weight_at}
-use Rattle.use_turns.specs.Turned.{Went, Put, Stops, Enters, Ends, Judged}
+use Rattle.use_turns.specs.Turned.{Went, Put, Stops, Enters, Ends, Judged, Finishes}
 use Rattle.use_turns.proofs.FrameLaws.{went_end, went_pass, went_enter, leads_below}
 use Rattle.use_turns.proofs.FrameLaws.{stops_missing, stops_back, stops_ninth, resume_end}
 
@@ -59,7 +59,7 @@ module _ {u : UseArrays} {o : Frames} (holds : HoldsUses u) (framed : Framed u o
 
   module _ (more : next_of o < end_of u (last_of o)) (t p : ℕ) (is-t : t ≡ get_or u.targets (next_of o) 0)
       (is-p : p ≡ get_or u.places (next_of o) 0) where
-    pub judged_missing : t ≡ 255 → Stops u o R.NotFound p
+    pub judged_missing : t ≡ 255 → Stops u o (record { why = R.NotFound; at = p })
     judged_missing e = λ put s. rw is-p (stops_missing put u o holds framed some more (sym is-t ∙ e) s)
 
     module _ (there : t ≡ 255 → ⊥) where
@@ -69,17 +69,17 @@ module _ {u : UseArrays} {o : Frames} (holds : HoldsUses u) (framed : Framed u o
       pub target_below : t < u.count
       target_below = leads_below (λ (s : Entry) (d : ℕ). s) u o holds framed some t leads
 
-      pub judged_open : is_in t (open_of o.stack o.depth) ≡ true → Stops u o R.Circular p
+      pub judged_open : is_in t (open_of o.stack o.depth) ≡ true → Stops u o (record { why = R.Circular; at = p })
       judged_open e = λ put s. rw is-p (stops_back put u o holds framed some t leads e s)
 
       module _ (fresh : is_in t (open_of o.stack o.depth) ≡ false) where
-        pub judged-ninth : o.depth ≡ 9 → Stops u o R.NinthUse p
+        pub judged-ninth : o.depth ≡ 9 → Stops u o (record { why = R.NinthUse; at = p })
         judged-ninth e = λ put s. rw is-p (stops_ninth put u o holds framed some t leads fresh (omega arith) s)
 
-        pub judged-pass : get_or o.heights t 0 < left_of o → Judged u o N.Pass
+        pub judged-pass : get_or o.heights t 0 < left_of o → Judged u o (Ok N.Pass)
         judged-pass l = (more, λ put. went_pass put u o holds framed some t leads fresh l)
 
-        pub judged-enter : (o.depth ≡ 9 → ⊥) → left_of o ≤ get_or o.heights t 0 → Judged u o (N.Enter t)
+        pub judged-enter : (o.depth ≡ 9 → ⊥) → left_of o ≤ get_or o.heights t 0 → Judged u o (Ok (N.Enter t))
         judged-enter n l =
             let d = framed.deep in
             let few : o.depth < 9 = omega arith in
@@ -96,9 +96,6 @@ pub record Along (u : UseArrays) (o o' : Frames) : Type 0 where
 abbrev keeping : Put
 keeping s d = s
 
-pub along_start : (u : UseArrays) (o : Frames) → Framed u o → Along u o o
-along_start u o f = record { same = λ put s. refl; framed = f; falls = omega arith }
-
 module _ {u : UseArrays} {o o' : Frames} (along : Along u o o') where
   along_went : {o'' : Frames} → ((put : Put) → Went put u o' o'' (λ s. s)) → Along u o o''
   along_went w =
@@ -110,21 +107,23 @@ module _ {u : UseArrays} {o o' : Frames} (along : Along u o o') where
         falls = omega arith;
       }
 
-  module _ (holds : HoldsUses u) (some : 0 < o'.depth) (x : ℕ) (ended : end_of u (last_of o') ≤ next_of o')
-      (kept : kept_as x ≡ low (height_of (heights_of o'.heights) (graph_of u (last_of o')))) where
-    pub along_finished : Along u o (finished o' x)
-    along_finished = along_went (λ put. went_end put u o' holds along.framed some x ended kept)
+  module _ {o'' : Frames} (holds : HoldsUses u) (some : 0 < o'.depth) (ended : end_of u (last_of o') ≤ next_of o')
+      (finish : Finishes u o' o'') where
+    pub along_finished : Along u o o''
+    along_finished =
+        rw finish.1 (along_went (λ put. went_end put u o' holds along.framed some finish.0 ended finish.2))
 
-    pub falls_finished : weight_at u (finished o' x) < weight_at u o'
-    falls_finished = (went_end keeping u o' holds along.framed some x ended kept).falls
+    pub falls_finished : weight_at u o'' < weight_at u o'
+    falls_finished =
+        rw finish.1 ((went_end keeping u o' holds along.framed some finish.0 ended finish.2).falls)
 
-  pub along_passed : Judged u o' N.Pass → Along u o (passed o')
+  pub along_passed : Judged u o' (Ok N.Pass) → Along u o (passed o')
   along_passed j = along_went j.1
 
-  pub falls_passed : Judged u o' N.Pass → weight_at u (passed o') < weight_at u o'
+  pub falls_passed : Judged u o' (Ok N.Pass) → weight_at u (passed o') < weight_at u o'
   falls_passed j = (j.1 keeping).falls
 
-  pub along_entered : (t : ℕ) → Judged u o' (N.Enter t)
+  pub along_entered : (t : ℕ) → Judged u o' (Ok (N.Enter t))
       → (t < u.count) × Enters u o (entered u o' t) t
   along_entered t j = (
     j.1.0,
@@ -134,9 +133,6 @@ module _ {u : UseArrays} {o o' : Frames} (along : Along u o o') where
       falls = let a = along.falls in let b = (j.1.1.1 put).falls in omega arith;
     },
   )
-
-  pub along_refused : (why : TextRefusal) (p : ℕ) → Stops u o' why p → Stops u o why p
-  along_refused why p j = λ put s. along.same put s ∙ j put s
 
   pub along_done : o'.depth ≤ 0 → Ends u o
   along_done h = λ put s. ap (map_answer (λ r. r.state)) (along.same put s) ∙ resume_end put u o' s h

@@ -18,8 +18,9 @@ use Rattle.uses.specs.Fast.{enter, finish, fast}
 use Rattle.uses.specs.Machine.{Frame, frame, chain_of, resume, turn_first}
 use Rattle.uses.specs.Machine.{turn_end, turn_missing, turn_back, turn_ninth, turn_pass, turn_enter}
 use Rattle.use_turns.specs.Frames.{UseArrays, use_at, uses_from, end_of, uses_left, graph_of, HoldsUses}
-use Rattle.use_turns.specs.Frames.{Frames, frames, top_of, last_of, next_of, left_of, open_of, frames_of, Framed}
-use Rattle.use_turns.specs.Frames.{kept_as, heights_of, met_of, resume_at, LeadsTo, finished, passed, entered}
+use Rattle.use_turns.specs.declared.Frames.{Frames}
+use Rattle.use_turns.specs.Frames.{frames, top_of, last_of, next_of, left_of, open_of, frames_of, Framed}
+use Rattle.use_turns.specs.Frames.{kept_as, heights_of, met_of, resume_at, LeadsTo, started, finished, passed, entered}
 use Rattle.use_turns.specs.Weight.{weight, weight_at}
 use Rattle.use_turns.specs.Turned.{Went}
 use Rattle.use_turns.proofs.WeightLaws.{weight_end, weight_pass, weight_enter}
@@ -379,11 +380,6 @@ unfinished_all (suc n) (suc d) = unfinished_all n d
 
 heights_start : heights_of (replicate 64 255) ≡ (λ d. unfinished)
 heights_start = fun_ext (λ d. rw (unfinished_all 64 d))
-
--- the frames of a walk from d
-abbrev pub started : UseArrays → ℕ → Frames
-started u d =
-    frames (set (replicate 9 0) 0 d) (set (replicate 9 0) 0 (get_or u.starts d 0)) (replicate 64 255) 1
 
 module _ {S : Type 0} (put : S → ℕ → S) (u : UseArrays) where
   pub resume_start : (s : S) (d : ℕ)

@@ -1,37 +1,45 @@
 -- The turns of the loops that read: over the open descriptions, and over a description's uses for its height.
 -- Assumes nothing.
 use mathlib.Core.Path.{◌≡◌, refl, sym, ap}
-use mathlib.Core.Bool.{true, false}
-use mathlib.Core.List.{List, ◌∷◌}
+use mathlib.Core.Bool.{Bool, true, false, ◌||◌}
+use mathlib.Core.List.{List, [], ◌∷◌}
 use Prim.Native.Nat.{ℕ, zero, suc, max, ◌+◌, ◌-◌, ◌≤◌, ◌<◌}
 use native.Mathlib.Omega.{arith}
-use lib.ListN.{length, get_or}
+use lib.Dec.{eqb}
+use lib.ListN.{length, get_or, take}
+use lib.Seq.{take-suc}
+use native.Mathlib.Decide.{ℕ_discrete}
+use Rattle.std.specs.List.{list_any}
+use Rattle.std.proofs.lemmas.List.Folds.{list_any-append}
 use borrow.Author.Tests.{eq-eqb, ne_eqb, lt-ltb, le-ltb}
 use Rattle.uses.specs.Walk.{is_in}
 use Rattle.uses.specs.Heights.{Kept, unfinished, height, higher, height_of, low}
 use Rattle.use_turns.specs.Frames.{uses_from, kept_as, heights_of, open_of}
 use Rattle.use_turns.proofs.FrameLaws.{uses_more, uses_none, heights_read}
 
--- ---- open descriptions: j of them are left, and k is one less
+-- ---- open descriptions
 
-open_cons : (stack : List ℕ) (j k : ℕ) → 0 < j → k ≡ j - 1 → open_of stack j ≡ get_or stack k 0 ∷ open_of stack k
-unfolding open_of
-open_cons stack zero k h e = absurd (let z : ⊥ = omega arith in z)
-open_cons stack (suc j) k h e = let p : k ≡ j = omega arith in rw p
+eqb_swap : (a b : ℕ) → eqb a b ≡ eqb b a
+eqb_swap a b =
+    elim (ℕ_discrete a b) [
+      | yes e ↦ rw e
+      | no n ↦ rw (ne_eqb a b n, ne_eqb b a (λ q. n (sym q)))
+    ]
 
-pub open_hit : (stack : List ℕ) (j k t : ℕ) → 0 < j → k ≡ j - 1 → get_or stack k 0 ≡ t → true ≡ is_in t (open_of stack j)
-unfolding is_in
-open_hit stack j k t h e q = rw (open_cons stack j k h e, eq-eqb t (get_or stack k 0) (sym q))
-
-pub open_miss : (stack : List ℕ) (j k t : ℕ) → 0 < j → k ≡ j - 1 → (get_or stack k 0 ≡ t → ⊥)
-    → is_in t (open_of stack j) ≡ is_in t (open_of stack k)
-unfolding is_in
-open_miss stack j k t h e q = rw (open_cons stack j k h e, ne_eqb t (get_or stack k 0) (λ p. q (sym p)))
-
-pub open_end : (stack : List ℕ) (j t : ℕ) → j ≤ 0 → is_in t (open_of stack j) ≡ false
+pub open_any : (stack : List ℕ) (d n : ℕ) → n ≤ length stack
+    → list_any (λ (y : ℕ). eqb y d) (take n stack) ≡ is_in d (open_of stack n)
 unfolding is_in open_of
-open_end stack zero t h = refl
-open_end stack (suc j) t h = absurd (let z : ⊥ = omega arith in z)
+open_any stack d zero l = refl
+open_any stack d (suc n) l =
+    rw (take-suc stack n 0 l, list_any-append (λ (y : ℕ). eqb y d) (take n stack) (get_or stack n 0 ∷ []))
+    (swapped (eqb (get_or stack n 0) d) (is_in d (open_of stack n)) (open_any stack d n (omega arith))
+    (eqb_swap (get_or stack n 0) d))
+  where
+    swapped : {a y : Bool} (x b : Bool) → a ≡ b → x ≡ y → (a || (x || false)) ≡ (y || b)
+    swapped true true p q = rw (p, ← q)
+    swapped true false p q = rw (p, ← q)
+    swapped false true p q = rw (p, ← q)
+    swapped false false p q = rw (p, ← q)
 
 -- ---- a height: h is that of the uses read
 

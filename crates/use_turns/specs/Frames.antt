@@ -1,6 +1,7 @@
 -- The uses of a text's descriptions, the open descriptions and the heights, as arrays hold them.
 -- Assumes nothing.
 use Rattle.std.specs.Prelude.{◌≡◌, List, [], ◌∷◌, ℕ, zero, suc, ◌+◌, ◌-◌, ◌≤◌, ◌<◌, eqb, ltb, length, get_or, set}
+use Rattle.std.specs.Prelude.{replicate}
 use Rattle.base.specs.If.{when◌then◌else◌}
 use Rattle.base.specs.Answer.{Answer}
 use Rattle.uses.specs.Walk.{Use, missing, found, Graph}
@@ -8,6 +9,7 @@ use Rattle.uses.specs.Targets.{no_target}
 use Rattle.uses.specs.Heights.{Kept, unfinished, height, Heights, unfinished_height}
 use Rattle.uses.specs.Fast.{Met}
 use Rattle.uses.specs.Machine.{Frame, frame, resume}
+use Rattle.use_turns.specs.declared.Frames.{Frames}
 
 -- ---- the uses
 
@@ -56,13 +58,6 @@ pub record HoldsUses (u : UseArrays) : Type 0 where
       → get_or u.targets i 0 < u.count
 
 -- ---- the open descriptions and the heights
-
--- the open descriptions are the first `depth` of the stack, each with its next use
-pub record Frames : Type 0 where
-  pub stack : List ℕ
-  pub next : List ℕ
-  pub heights : List ℕ
-  pub depth : ℕ
 
 abbrev pub frames : (stack next heights : List ℕ) → ℕ → Frames
 frames stack next heights depth = record { stack = stack; next = next; heights = heights; depth = depth }
@@ -113,6 +108,11 @@ met_of hs s = record { heights = heights_of hs; state = s }
 abbrev pub resume_at : {S : Type 0} → (S → ℕ → S) → UseArrays → Frames → S → Answer (Met S)
 resume_at put u o s =
     resume put (graph_of u) (left_of o) (frames_of u o.stack o.next o.depth) (met_of o.heights s)
+
+-- the frames of a walk from d
+abbrev pub started : UseArrays → ℕ → Frames
+started u d =
+    frames (set (replicate 9 0) 0 d) (set (replicate 9 0) 0 (get_or u.starts d 0)) (replicate 64 255) 1
 
 -- ---- a turn: the last open description's next use, or its end
 

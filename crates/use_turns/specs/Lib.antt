@@ -1,3 +1,4 @@
 pub mod Frames
 pub mod Weight
 pub mod Turned
+pub mod Held

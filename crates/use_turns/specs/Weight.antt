@@ -3,7 +3,8 @@
 -- Assumes nothing.
 use Rattle.std.specs.Prelude.{List, [], ◌∷◌, ℕ, zero, suc, ◌+◌, length}
 use Rattle.uses.specs.Machine.{Frame, frame}
-use Rattle.use_turns.specs.Frames.{UseArrays, Frames, left_of, frames_of}
+use Rattle.use_turns.specs.declared.Frames.{Frames}
+use Rattle.use_turns.specs.Frames.{UseArrays, left_of, frames_of}
 
 -- n times p, and b to the power k
 unfoldable pub times : ℕ → ℕ → ℕ

@@ -2,30 +2,54 @@
 // walk is finished is passed over if the chain can take its height. Proved: what is left of the walk, as `resume` of
 // uses/specs says, is the same from each turn to the next. Assumed: nothing.
 //
-// The uses of description d, of `count`, stand from `starts[d]` up to `starts[d + 1]`; a target of NO_TARGET is a
-// name that no description has. The open descriptions, those being worked on, are the first `depth` of `stack`, each
-// with its next use in `next`. A finished description whose height the chain can't take is entered once more: the
-// ninth use stands below it.
+// A finished description whose height the chain can't take is entered once more: the ninth use stands below it.
 #![tactic(auto)]
 
-ghost use Rattle.std.specs.Prelude.{◌≡◌, List, ℕ, ◌-◌, ◌<◌, ◌≤◌, length, get_or};
+ghost use Rattle.std.specs.Prelude.{◌≡◌, List, ℕ, ◌+◌, ◌-◌, ◌^◌, ◌<◌, ◌≤◌, length, get_or};
 ghost use Rattle.uses.specs.Walk.{is_in};
 ghost use Rattle.uses.specs.Targets.{no_target};
 ghost use Rattle.uses.specs.Heights.{height_of, low};
-ghost use Rattle.use_turns.specs.Frames.{use_arrays, uses_from, HoldsUses};
-ghost use Rattle.use_turns.specs.Frames.{frames, open_of, Framed, kept_as, heights_of};
-ghost use Rattle.use_turns.specs.Turned.{Judged, Advances};
+ghost use Rattle.use_turns.specs.Frames.{use_arrays, end_of, uses_from, graph_of, HoldsUses};
+ghost use Rattle.use_turns.specs.Frames.{last_of, next_of, open_of, Framed, kept_as, heights_of};
+ghost use Rattle.use_turns.specs.Frames.{started, finished, passed, entered};
+ghost use Rattle.use_turns.specs.Turned.{Judged, Finishes, Advances};
 
-use text::{DESCRIPTIONS_MOST, TextRefusal};
+use text::{DESCRIPTIONS_MOST, TextRefusal, TextRefused};
 
 // The most open descriptions: the wanted one, and one for each use of a chain.
-pub const OPEN_MOST: usize = 9;
+const OPEN_MOST: usize = 9;
 
-// The target of a use whose name no description has.
+// The target of a use whose name no description has. (A number stands for none: an `Option` for each of 3,276 uses
+// would take twice the memory.)
 const NO_TARGET: usize = uses::NO_TARGET as usize;
 
-// The height of a description that is not finished.
-pub const UNFINISHED: usize = 255;
+// The height of a description that is not finished. (A number stands for none: with an `Option` for each of 64
+// descriptions the heights would take twice the memory.)
+const UNFINISHED: usize = 255;
+
+// The uses of a text's descriptions: those of description d stand from `starts[d]` up to `starts[d + 1]`, each with
+// the place of its field and its target, the description to which it leads.
+#[derive(Clone, Copy)]
+pub struct Uses<'a> {
+    pub starts: &'a [usize],
+    pub places: &'a [u16],
+    pub targets: &'a [u8],
+    // how many descriptions there are
+    pub count: usize,
+    pub ghost held: { HoldsUses (use_arrays starts.now places.now targets.now count) },
+    pub ghost fits: { length targets.now < 2 ^ 64 },
+}
+
+// The open descriptions, those being worked on, and the heights of those that are finished.
+#[derive(Clone, Copy)]
+pub struct Frames {
+    // the first `depth` of these are open
+    stack: [usize; OPEN_MOST],
+    // the next use of each
+    next: [usize; OPEN_MOST],
+    heights: [usize; DESCRIPTIONS_MOST],
+    depth: usize,
+}
 
 // What the last open description's next use asks for.
 #[derive(Clone, Copy)]
@@ -36,45 +60,6 @@ enum Next {
     Pass,
     // that description is to be entered
     Enter(usize),
-    // a refusal, and the first byte of the use
-    Refused(TextRefusal, usize),
-}
-
-// How far the walk comes before it enters another description.
-#[derive(Clone, Copy)]
-pub enum Advanced {
-    // the description to be entered, and how many are open with it
-    Entered(usize, usize),
-    End,
-    // a refusal, and the first byte of the use
-    Refused(TextRefusal, usize),
-}
-
-fn wide(x: u8) -> usize
-    ensures { result ≡ x }
-{
-    x as usize
-}
-
-fn wide_place(x: u16) -> usize
-    ensures { result ≡ x }
-{
-    x as usize
-}
-
-// A description is open.
-fn is_open(stack: &[usize; OPEN_MOST], depth: usize, d: usize) -> bool
-    requires { depth ≤ 9 }
-    ensures { result ≡ is_in d (open_of stack.now depth) }
-{
-    let mut j = depth;
-    while 0 < j {
-        j -= 1;
-        if stack[j] == d {
-            return true;
-        }
-    }
-    false
 }
 
 // The height of a description whose uses stand from one up to another; it is not finished if a use leads to what is
@@ -86,9 +71,8 @@ fn height_of(targets: &[u8], from: usize, end: usize, heights: &[usize; DESCRIPT
         (uses_from places targets.now from (end - from))) }
 {
     let mut h: usize = 0;
-    let mut i = from;
-    while i < end {
-        let target = wide(targets[i]);
+    for i in from..end {
+        let target = usize::from(targets[i]);
         if target == NO_TARGET {
             return UNFINISHED;
         }
@@ -99,91 +83,125 @@ fn height_of(targets: &[u8], from: usize, end: usize, heights: &[usize; DESCRIPT
         if h <= x {
             h = x + 1;
         }
-        i += 1;
     }
     h
 }
 
-// Judges the last open description's next use.
-fn next_use(
-    starts: &[usize],
-    places: &[u16],
-    targets: &[u8],
-    count: usize,
-    stack: &[usize; OPEN_MOST],
-    next: &[usize; OPEN_MOST],
-    heights: &[usize; DESCRIPTIONS_MOST],
-    depth: usize,
-) -> Next
-    requires { (0 < depth) × (HoldsUses (use_arrays starts.now places.now targets.now count)
-        × Framed (use_arrays starts.now places.now targets.now count)
-        (frames stack.now next.now heights.now depth)) }
-    ensures { Judged (use_arrays starts.now places.now targets.now count)
-        (frames stack.now next.now heights.now depth) result }
-{
-    let d = stack[depth - 1];
-    let i = next[depth - 1];
-    if starts[d + 1] <= i {
-        return Next::End;
-    }
-    let t = wide(targets[i]);
-    let p = wide_place(places[i]);
-    let is_circular = is_open(stack, depth, t);
-    if t == NO_TARGET {
-        return Next::Refused(TextRefusal::NotFound, p);
-    }
-    if is_circular {
-        return Next::Refused(TextRefusal::Circular, p);
-    }
-    if depth == OPEN_MOST {
-        return Next::Refused(TextRefusal::NinthUse, p);
-    }
-    if heights[t] < OPEN_MOST - depth {
-        return Next::Pass;
-    }
-    Next::Enter(t)
-}
+impl Frames {
+    ghost use Rattle.use_turns.specs.Held.{arrays_of};
 
-// Goes on to the next description that is to be entered, and opens it.
-pub fn advance(
-    starts: &[usize],
-    places: &[u16],
-    targets: &[u8],
-    count: usize,
-    stack: &mut [usize; OPEN_MOST],
-    next: &mut [usize; OPEN_MOST],
-    heights: &mut [usize; DESCRIPTIONS_MOST],
-    depth: usize,
-) -> Advanced
-    requires { HoldsUses (use_arrays starts.now places.now targets.now count)
-        × Framed (use_arrays starts.now places.now targets.now count)
-        (frames stack.old next.old heights.old depth) }
-    ensures { Advances (use_arrays starts.now places.now targets.now count)
-        (frames stack.old next.old heights.old depth) stack.new
-        next.new heights.new result }
-{
-    let mut n = depth;
-    while 0 < n {
-        let top = n - 1;
-        match next_use(starts, places, targets, count, stack, next, heights, n) {
-            Next::Refused(why, p) => {
-                return Advanced::Refused(why, p);
-            }
-            Next::End => {
-                let d = stack[top];
-                heights[d] = height_of(targets, starts[d], starts[d + 1], heights);
-                n = top;
-            }
-            Next::Pass => {
-                next[top] += 1;
-            }
-            Next::Enter(t) => {
-                next[top] += 1;
-                stack[n] = t;
-                next[n] = starts[t];
-                return Advanced::Entered(t, n + 1);
-            }
+    // The wanted description is open, and no other.
+    pub fn start(uses: &Uses, wanted: usize) -> Frames
+        requires { wanted < uses.now.count }
+        ensures { result ≡ started (arrays_of uses.now) wanted }
+    {
+        let mut stack = [0usize; OPEN_MOST];
+        let mut next = [0usize; OPEN_MOST];
+        stack[0] = wanted;
+        next[0] = uses.starts[wanted];
+        Frames {
+            stack,
+            next,
+            heights: [UNFINISHED; DESCRIPTIONS_MOST],
+            depth: 1,
         }
     }
-    Advanced::End
+
+    // A description is open.
+    fn is_open(&self, d: usize) -> bool
+        requires { (self.now.depth ≤ 9) × (length self.now.stack ≡ 9) }
+        ensures { result ≡ is_in d (open_of self.now.stack self.now.depth) }
+    {
+        self.stack[..self.depth].contains(&d)
+    }
+
+    // Judges the last open description's next use.
+    fn next_use(&self, uses: &Uses) -> Result<Next, TextRefused>
+        requires { (0 < self.now.depth) × Framed (arrays_of uses.now) self.now }
+        ensures { Judged (arrays_of uses.now) self.now result }
+    {
+        let d = self.stack[self.depth - 1];
+        let i = self.next[self.depth - 1];
+        if uses.starts[d + 1] <= i {
+            return Ok(Next::End);
+        }
+        let t = usize::from(uses.targets[i]);
+        let at = usize::from(uses.places[i]);
+        if t == NO_TARGET {
+            return Err(TextRefused {
+                why: TextRefusal::NotFound,
+                at,
+            });
+        }
+        if self.is_open(t) {
+            return Err(TextRefused {
+                why: TextRefusal::Circular,
+                at,
+            });
+        }
+        if self.depth == OPEN_MOST {
+            return Err(TextRefused {
+                why: TextRefusal::NinthUse,
+                at,
+            });
+        }
+        if self.heights[t] < OPEN_MOST - self.depth {
+            return Ok(Next::Pass);
+        }
+        Ok(Next::Enter(t))
+    }
+
+    // Finishes the last open description.
+    fn finish(&mut self, uses: &Uses)
+        requires { (0 < self.old.depth) × Framed (arrays_of uses.now) self.old }
+        ensures { Finishes (arrays_of uses.now) self.old self.new }
+    {
+        let d = self.stack[self.depth - 1];
+        self.heights[d] = height_of(
+            uses.targets,
+            uses.starts[d],
+            uses.starts[d + 1],
+            &self.heights,
+        );
+        self.depth -= 1;
+    }
+
+    // Passes over the last open description's next use.
+    fn pass(&mut self)
+        requires { (0 < self.old.depth) × ((self.old.depth ≤ length self.old.next) × (next_of self.old + 1 < 2 ^ 64)) }
+        ensures { self.new ≡ passed self.old }
+    {
+        self.next[self.depth - 1] += 1;
+    }
+
+    // Enters the description to which the last open one's next use leads.
+    fn enter(&mut self, uses: &Uses, t: usize)
+        requires { (0 < self.old.depth) × ((self.old.depth < 9) × ((length self.old.next ≡ 9)
+            × ((length self.old.stack ≡ 9) × ((next_of self.old + 1 < 2 ^ 64) × (t < uses.now.count))))) }
+        ensures { self.new ≡ entered (arrays_of uses.now) self.old t }
+    {
+        self.pass();
+        self.stack[self.depth] = t;
+        self.next[self.depth] = uses.starts[t];
+        self.depth += 1;
+    }
+
+    // Goes on to the next description that is to be entered, and opens it; there is none at the walk's end.
+    pub fn advance(&mut self, uses: &Uses) -> Result<Option<usize>, TextRefused>
+        requires { Framed (arrays_of uses.now) self.old }
+        ensures { Advances (arrays_of uses.now) self.old self.new result }
+    {
+        // the depth rises and falls: no range counts the turns
+        while 0 < self.depth {
+            match self.next_use(uses)? {
+                Next::End => self.finish(uses),
+                Next::Pass => self.pass(),
+                Next::Enter(t) => {
+                    self.enter(uses, t);
+                    return Ok(Some(t));
+                }
+            }
+        }
+        Ok(None)
+    }
 }

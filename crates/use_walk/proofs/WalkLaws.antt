@@ -10,19 +10,18 @@ use Rattle.edition.specs.declared.Edition.{Edition}
 use Rattle.entry.specs.Reading.{Entry, edition_of}
 use Rattle.entry.specs.Writing.{Handed, boolean_handed, number_handed}
 use Rattle.uses.specs.Fast.{fast}
-use Rattle.text.specs.declared.TextRefusal.{TextRefusal}
+use Rattle.text.specs.declared.TextRefused.{TextRefused}
 use Rattle.text.specs.Describing.{Fields, sayings_from, Description, described}
 use Rattle.text.specs.Building.{description_at, uses_of, own_of}
 use Rattle.building_laws.specs.Over.{described_over}
 use Rattle.compile_laws.specs.Held.{text_string, text_entry, Holds}
 use Rattle.compile_laws.specs.Listed.{text_descriptions}
-use Rattle.walk_fields.specs.declared.Walked.{Walked}
-use Rattle.walk_fields.specs.declared.Walked.TheVariants as F
+use Rattle.std.specs.Prelude.{Bool, Result, Ok, Err}
 use Rattle.each_field.specs.Each.{KeepsAll}
 use Rattle.walk_fields.specs.Walks.{FieldsCome, Walks}
-use Rattle.use_turns.specs.Frames.{UseArrays, use_arrays, Frames, Framed, resume_at}
-use Rattle.use_turns.proofs.FrameLaws.{started, framed_start, resume_start}
-use Rattle.use_walk.specs.declared.UsesWalked.TheVariants as W
+use Rattle.use_turns.specs.declared.Frames.{Frames}
+use Rattle.use_turns.specs.Frames.{UseArrays, use_arrays, Framed, resume_at, started}
+use Rattle.use_turns.proofs.FrameLaws.{framed_start, resume_start}
 use Rattle.use_walk.specs.Walks.{FieldsFrom, Arrays, put_own, WalksUses}
 use Rattle.use_walk.specs.Own.{PutsOwn}
 use Rattle.use_turns.specs.Turned.{Stops, Enters, Ends}
@@ -39,14 +38,13 @@ text_edition e h =
     }
 
 -- what right fields come to is kept
-fields_kept : (e : Edition) (before after : List ℕ → Handed) (a : Answer Fields) (f : Fields) (r : Walked)
-    → a ≡ gives f → FieldsCome e before after a r → KeepsAll e before after f
-fields_kept e before after a f F.Alone q c = let z : c.0 ≡ f = cc in λ n. c.1.1.0 n ∙ rw z
-fields_kept e before after a f F.Several q c = let z : c.0 ≡ f = cc in λ n. c.1.1 n ∙ rw z
-fields_kept e before after a f (F.Refused why p) q c =
+fields_kept : (e : Edition) (before after : List ℕ → Handed) (a : Answer Fields) (f : Fields)
+    (r : Result Bool TextRefused) → a ≡ gives f → FieldsCome e before after a r → KeepsAll e before after f
+fields_kept e before after a f (Ok alone) q c = let z : c.0 ≡ f = cc in λ n. c.1.1.0 n ∙ rw z
+fields_kept e before after a f (Err r) q c =
     absurd (let z : ◌≡◌ {A = ℕ} 0 1 = cc in (let y : ⊥ = omega arith in y))
 
-pub put_own_lem : (e : Edition) (d c : ℕ) (before after : List ℕ → Handed) (r : Walked)
+pub put_own_lem : (e : Edition) (d c : ℕ) (before after : List ℕ → Handed) (r : Result Bool TextRefused)
     → FieldsFrom e (before []).lent c (description_at (text_descriptions e (before []).lent) d)
     → Walks e (c + 1) before after r → PutsOwn e d before after
 unfolding own_of
@@ -62,66 +60,57 @@ put_own_lem e d c before after r f w =
 
 -- ---- the walk
 
--- from the wanted description the walk has come to d, which is open and not yet put
-pub record Walking (e : Edition) (u : UseArrays) (wanted : ℕ) (before now : List ℕ → Handed) (o : Frames) (d : ℕ)
+-- from the wanted description the walk has come to the frames, and each description that was entered is put
+pub record Walking (e : Edition) (u : UseArrays) (wanted : ℕ) (before now : List ℕ → Handed) (o : Frames)
     : Type 0 where
   pub holds : Holds e (now [])
-  pub below : d < u.count
   pub framed : Framed u o
   pub answer : (n : List ℕ)
       → map_answer (λ r. r.state)
-      (resume_at (put_own e (text_descriptions e (before []).lent)) u o
-      (put_own e (text_descriptions e (before []).lent) (text_entry e (now n)) d))
+      (resume_at (put_own e (text_descriptions e (before []).lent)) u o (text_entry e (now n)))
       ≡ fast (put_own e (text_descriptions e (before []).lent)) (uses_of (text_descriptions e (before []).lent))
       (text_entry e (before n)) wanted
 
 pub walking_start : {e : Edition} {commas starts places targets : List ℕ} {count : ℕ} (wanted : ℕ)
-    (before : List ℕ → Handed) → Arrays e (before []).lent commas starts places targets count → wanted < count
-    → Holds e (before [])
-    → Walking e (use_arrays starts places targets count) wanted before before
-    (started (use_arrays starts places targets count) wanted) wanted
-walking_start {e} {starts} {places} {targets} {count} wanted before arrays l h =
+    (before now : List ℕ → Handed) → Arrays e (before []).lent commas starts places targets count → wanted < count
+    → PutsOwn e wanted before now
+    → Walking e (use_arrays starts places targets count) wanted before now
+    (started (use_arrays starts places targets count) wanted)
+walking_start {e} {starts} {places} {targets} {count} wanted before now arrays l puts =
     let u : UseArrays = use_arrays starts places targets count in
     let ds : List Description = text_descriptions e (before []).lent in
     record {
-      holds = h;
-      below = l;
+      holds = puts.holds;
       framed = framed_start u wanted (holds_uses arrays (omega arith)) l;
-      answer = λ n. resume_start (put_own e ds) u (text_entry e (before n)) wanted
-          ∙ ap (λ g. fast (put_own e ds) g (text_entry e (before n)) wanted) (graph_listed arrays (omega arith));
+      answer = λ n.
+          ap (λ s. map_answer (λ r. r.state) (resume_at (put_own e ds) u (started u wanted) s)) (puts.entry n)
+          ∙ (resume_start (put_own e ds) u (text_entry e (before n)) wanted
+          ∙ ap (λ g. fast (put_own e ds) g (text_entry e (before n)) wanted) (graph_listed arrays (omega arith)));
     }
 
-module _ {e : Edition} {u : UseArrays} {wanted : ℕ} {before now now' : List ℕ → Handed} {o : Frames} {d : ℕ}
-    (walking : Walking e u wanted before now o d) (puts : PutsOwn e d now now') (lent : (now []).lent ≡ (before []).lent)
-  where
-    abbrev put : Entry → ℕ → Entry
-    put = put_own e (text_descriptions e (before []).lent)
+module _ {e : Edition} {u : UseArrays} {wanted : ℕ} {before now : List ℕ → Handed} {o : Frames}
+    (walking : Walking e u wanted before now o) where
+  abbrev put : Entry → ℕ → Entry
+  put = put_own e (text_descriptions e (before []).lent)
 
-    -- what is left with its own states put
-    left_put : (n : List ℕ) → map_answer (λ r. r.state) (resume_at put u o (text_entry e (now' n)))
-        ≡ fast put (uses_of (text_descriptions e (before []).lent)) (text_entry e (before n)) wanted
-    left_put n =
-        ap (λ s. map_answer (λ r. r.state) (resume_at put u o s))
-        (puts.entry n ∙ ap (λ t. put_own e (text_descriptions e t) (text_entry e (now n)) d) lent)
-        ∙ walking.answer n
+  pub walking_entered : {now' : List ℕ → Handed} {o' : Frames} (t : ℕ) → Enters u o o' t
+      → PutsOwn e t now now' → (now []).lent ≡ (before []).lent → Walking e u wanted before now' o'
+  walking_entered {now'} {o'} t w puts lent =
+      record {
+        holds = puts.holds;
+        framed = (w put).framed;
+        answer =
+            λ n. ap (λ s. map_answer (λ r. r.state) (resume_at put u o' s))
+            (puts.entry n ∙ ap (λ t'. put_own e (text_descriptions e t') (text_entry e (now n)) t) lent)
+            ∙ (ap (map_answer (λ r. r.state)) (sym ((w put).same (text_entry e (now n)))) ∙ walking.answer n);
+      }
 
-    pub walking_entered : {o' : Frames} (t : ℕ) → t < u.count → Enters u o o' t → Walking e u wanted before now' o' t
-    walking_entered t l w =
-        record {
-          holds = puts.holds;
-          below = l;
-          framed = (w put).framed;
-          answer = λ n. ap (map_answer (λ r. r.state)) (sym ((w put).same (text_entry e (now' n)))) ∙ left_put n;
-        }
+  pub walking_done : Ends u o → WalksUses e wanted before now (Ok tt)
+  walking_done w = record { holds = walking.holds; entry = λ n. sym (w put (text_entry e (now n))) ∙ walking.answer n }
 
-    pub walking_done : Ends u o → WalksUses e wanted before now' W.Done
-    walking_done w =
-        record { holds = puts.holds; entry = λ n. sym (w put (text_entry e (now' n))) ∙ left_put n }
-
-    pub walking_refused : (why : TextRefusal) (p : ℕ) → Stops u o why p
-        → WalksUses e wanted before now' (W.Refused why p)
-    walking_refused why p w =
-        record {
-          holds = puts.holds;
-          entry = λ n. sym (ap (map_answer (λ r. r.state)) (w put (text_entry e (now' n)))) ∙ left_put n;
-        }
+  pub walking_refused : (r : TextRefused) → Stops u o r → WalksUses e wanted before now (Err r)
+  walking_refused r w =
+      record {
+        holds = walking.holds;
+        entry = λ n. sym (ap (map_answer (λ r. r.state)) (w put (text_entry e (now n)))) ∙ walking.answer n;
+      }

@@ -1,4 +1,4 @@
--- What entering a description does: its own states are put under those that the arrays hold.
+-- What entering a description does: its own states are put under those that are there.
 -- Assumes nothing.
 use Rattle.std.specs.Prelude.{◌≡◌, List, [], ℕ}
 use Rattle.edition.specs.declared.Edition.{Edition}

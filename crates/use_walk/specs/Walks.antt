@@ -1,18 +1,17 @@
--- What the walk along the uses of a description comes to, and what the arrays of the compiler hold after it.
+-- What the walk along the uses of a description comes to, and what the compiler's states hold after it.
 -- Assumes nothing.
-use Rattle.std.specs.Prelude.{◌≡◌, List, [], ◌∷◌, ℕ, ◌+◌, ◌<◌, ◌≤◌, length, get_or}
-use Rattle.base.specs.Answer.{Answer, refused, gives}
+use Rattle.std.specs.Prelude.{◌≡◌, List, [], ℕ, ◌+◌, ◌<◌, ◌≤◌, length, get_or, Result, Ok, Err}
+use Rattle.base.specs.Answer.{Answer, gives}
 use Rattle.edition.specs.declared.Edition.{Edition}
 use Rattle.entry.specs.Reading.{Entry}
 use Rattle.entry.specs.Writing.{Handed}
 use Rattle.uses.specs.Fast.{fast}
 use Rattle.text.specs.Describing.{Fields, sayings_from, Description, descriptions_most}
 use Rattle.text.specs.Building.{description_at, uses_of, over_in, own_of}
-use Rattle.text.specs.Compiling.{text_number}
+use Rattle.text.specs.declared.TextRefused.{TextRefused}
+use Rattle.text.specs.Refusals.{text_refused}
 use Rattle.compile_laws.specs.Held.{text_entry, Holds}
 use Rattle.compile_laws.specs.Listed.{text_descriptions, UsesListed, Targets}
-use Rattle.use_walk.specs.declared.UsesWalked.{UsesWalked}
-use Rattle.use_walk.specs.declared.UsesWalked.TheVariants as W
 
 -- a description's fields stand behind the comma at c
 pub record FieldsFrom (e : Edition) (t : List ℕ) (c : ℕ) (d : Description) : Type 0 where
@@ -35,13 +34,14 @@ pub record Arrays (e : Edition) (t commas starts places targets : List ℕ) (cou
 abbrev pub put_own : Edition → List Description → Entry → ℕ → Entry
 put_own e ds s d = over_in e s (own_of e ds d)
 
--- what the walk comes to, where x is the entry that the arrays hold after it
-abbrev pub walked_to : Entry → UsesWalked → Answer Entry
-walked_to x W.Done = gives x
-walked_to x (W.Refused why p) = refused (text_number why) (p ∷ [])
+-- what the walk comes to, where x is the entry that the states hold after it
+abbrev pub walked_to : Entry → Result (Unit {0}) TextRefused → Answer Entry
+walked_to x (Ok _) = gives x
+walked_to x (Err r) = text_refused r
 
 -- the wanted description and all that it leads to, under whatever names
-pub record WalksUses (e : Edition) (wanted : ℕ) (before after : List ℕ → Handed) (r : UsesWalked) : Type 0 where
+pub record WalksUses (e : Edition) (wanted : ℕ) (before after : List ℕ → Handed) (r : Result (Unit {0}) TextRefused)
+    : Type 0 where
   pub holds : Holds e (after [])
   pub entry : (n : List ℕ)
       → walked_to (text_entry e (after n)) r

@@ -9,30 +9,23 @@ ghost use Rattle.used_name.specs.Reads.{ReadsName};
 use escapes::{item_at, stored_byte};
 use text::{ALIAS_MOST, StringItem};
 
-// The name in a use.
-#[derive(Clone, Copy)]
-pub enum Used {
-    // how many bytes it has
-    Name(usize),
-    // more than an alias may have
-    Long,
-}
-
-// Reads the name whose string starts at a place into `name`. A malformed string may be read as the empty name.
-pub fn read(text: &[u8], start: usize, name: &mut [u8]) -> Used
+// Reads the name whose string starts at a place into `name`, and answers how many bytes it has, or None where it has
+// more than an alias may have. A malformed string may be read as the empty name.
+pub fn read(text: &[u8], start: usize, name: &mut [u8]) -> Option<usize>
     requires { alias_most ≤ length name.old }
     ensures { ReadsName result text.now start name.new }
 {
     let mut i = start;
     let mut n = 0;
+    // the place moves by the items' sizes, so no range counts it
     while i < text.len() {
         match item_at(text, i) {
             StringItem::End => {
-                return Used::Name(n);
+                return Some(n);
             }
             StringItem::Byte(b, k) => {
                 if ALIAS_MOST <= n {
-                    return Used::Long;
+                    return None;
                 }
                 name[n] = stored_byte(b);
                 n += 1;
@@ -42,9 +35,9 @@ pub fn read(text: &[u8], start: usize, name: &mut [u8]) -> Used
                 i = k;
             }
             StringItem::Malformed => {
-                return Used::Name(0);
+                return Some(0);
             }
         }
     }
-    Used::Name(0)
+    Some(0)
 }

@@ -6,38 +6,30 @@ ghost use Rattle.std.specs.Prelude.{◌≡◌, List};
 ghost use Rattle.edition.specs.declared.Edition.{Edition};
 ghost use Rattle.text.specs.Describing.{Description};
 ghost use Rattle.text.specs.Building.{wanted_as, wanted_in};
-ghost use Rattle.compile_laws.specs.Listed.{Listed, HeadsIn};
+ghost use Rattle.compile_laws.specs.Listed.{Listed};
 ghost use Rattle.use_names.specs.Having.{says_named};
 ghost use Rattle.wanted.specs.Wanted.{wanted_by, wants};
 
-use use_names::Named;
+use use_names::Headers;
 
 // The description whose header has these names is the wanted one, where it is the text's first.
-pub fn is_wanted(names: &[u8], is_named: bool, wanted: &[u8]) -> bool
-    ensures { result ≡ wants (wanted_by is_named wanted.now) names.now }
+pub fn is_wanted(names: &[u8], wanted: Option<&[u8]>) -> bool
+    ensures { result ≡ wants (wanted_by wanted.entry) names.now }
 {
-    if is_named {
-        return use_names::has_name(names, wanted);
+    match wanted {
+        Some(name) => use_names::has_name(names, name),
+        None => true,
     }
-    true
 }
 
 // The wanted one of the descriptions.
-pub fn find_wanted(
-    text: &[u8],
-    heads: &[usize],
-    commas: &[usize],
-    count: usize,
-    is_named: bool,
-    wanted: &[u8],
-) -> Named
-    requires { HeadsIn text.now heads.now commas.now count }
+pub fn find_wanted(headers: &Headers<'_>, wanted: Option<&[u8]>) -> Option<usize>
     ensures { (e : Edition) (ds : List Description)
-        → Listed e text.now heads.now commas.now count ds
-        → wanted_as (says_named result) ≡ wanted_in ds (wanted_by is_named wanted.now) }
+        → Listed e headers.now.text.now headers.now.heads.now headers.now.commas.now headers.now.count ds
+        → wanted_as (says_named result) ≡ wanted_in ds (wanted_by wanted.entry) }
 {
-    if is_named {
-        return use_names::find(text, heads, commas, count, wanted);
+    match wanted {
+        Some(name) => headers.find(name),
+        None => Some(0),
     }
-    Named::Numbered(0)
 }

@@ -30,17 +30,16 @@ pub fn find_nul(f: &[u8], a: usize, e: usize) -> usize
     requires { e ≤ length f.now }
     ensures { result ≡ nul_from f.now a e }
 {
-    let mut i = a;
-    while i < e {
+    for i in a..e {
         if f[i] == 0 {
             return i;
         }
-        i += 1;
     }
-    i
+    a.max(e)
 }
 
-// The place of the first NUL from a on, which is there: no byte is tested for the end.
+// The place of the first NUL from a on, which is there. No range counts the places: with its end tested at each byte,
+// listing every state of xterm was tried and is slower than its bar allows.
 pub fn nul_from(f: &[u8], a: usize) -> usize
     requires { nul_from f.now a (length f.now) < length f.now }
     ensures { result ≡ nul_from f.now a (length f.now) }

@@ -7,12 +7,12 @@ ghost use Rattle.base.specs.Overwrite.{put_at};
 ghost use Rattle.entry.specs.Layout.{size_of, numbers_at, table_at};
 ghost use Rattle.entry.specs.Writing.{encode, entry_of};
 ghost use Rattle.put.specs.Table.{total};
-ghost use Rattle.entry.specs.Handed.{handed, front_handed};
-ghost use Rattle.write_laws.specs.File.{sizes_with, sizes_handed, head, slots, front, HeadFits, SlotsFit, FrontFits};
+ghost use Rattle.entry.specs.Handed.{handed_by};
+ghost use Rattle.write_laws.specs.File.{sizes_with, head, slots, front, HeadFits, SlotsFit, FrontFits};
 ghost use Rattle.write_laws.specs.File.{Sure};
 
 use edition::Edition;
-use entry::{HEADER_SIZE, NUMBER_WIDTH, OFFSET_WIDTH, Sizes};
+use entry::{HEADER_SIZE, NUMBER_WIDTH, OFFSET_WIDTH, Sizes, States, Strings};
 
 // The header's sizes, with a string table of so many bytes.
 pub fn sizes_with(e: Edition, names: &[u8], table: usize) -> Sizes
@@ -28,14 +28,14 @@ pub fn sizes_with(e: Edition, names: &[u8], table: usize) -> Sizes
 }
 
 // The header's sizes for what is handed over.
-pub fn sizes(e: Edition, names: &[u8], string_kinds: &[u8], string_lengths: &[usize]) -> Sizes
-    requires { (e.strings ≤ length string_kinds.now)
-        × ((e.strings ≤ length string_lengths.now)
-        × (total string_kinds.now string_lengths.now e.strings < 2 ^ 64)) }
-    ensures { result ≡ sizes_handed e (front_handed names.now [] [] [] string_kinds.now
-        string_lengths.now) }
+pub fn sizes(e: Edition, names: &[u8], strings: &Strings<'_>) -> Sizes
+    requires { (e.strings ≤ length strings.now.kinds.now)
+        × ((e.strings ≤ length strings.now.lengths.now)
+        × (total strings.now.kinds.now strings.now.lengths.now e.strings < 2 ^ 64)) }
+    ensures { result ≡ sizes_with e names.now
+        (total strings.now.kinds.now strings.now.lengths.now e.strings) }
 {
-    let table = put::table_size(string_kinds, string_lengths, e.strings);
+    let table = put::table_size(strings.kinds, strings.lengths, e.strings);
     sizes_with(e, names, table)
 }
 
@@ -64,72 +64,35 @@ pub fn file_size(s: Sizes) -> usize
 }
 
 // The header, the names, the booleans and the pad byte.
-fn put_head(b: &mut [u8], s: Sizes, names: &[u8], boolean_kinds: &[u8])
-    requires { HeadFits b.old s (front_handed names.now boolean_kinds.now [] [] [] []) }
-    ensures { b.new ≡ put_at b.old 0
-        (head s (front_handed names.now boolean_kinds.now [] [] [] [])) }
+fn put_head(b: &mut [u8], s: Sizes, names: &[u8], states: &States<'_>)
+    requires { HeadFits b.old s (handed_by names.now states.now []) }
+    ensures { b.new ≡ put_at b.old 0 (head s (handed_by names.now states.now [])) }
 {
     put::put_header(b, s);
     put::put_string(b, HEADER_SIZE, names);
     let at = HEADER_SIZE + s.names;
-    put::put_booleans(b, at, boolean_kinds, s.booleans);
+    put::put_booleans(b, at, states.boolean_kinds, s.booleans);
     put::put_pad(b, at + s.booleans, (s.names + s.booleans) % 2);
 }
 
 // The slots of the numbers and of the strings, from at on.
-fn put_slots(
-    b: &mut [u8],
-    at: usize,
-    s: Sizes,
-    number_kinds: &[u8],
-    number_values: &[u32],
-    string_kinds: &[u8],
-    string_lengths: &[usize],
-)
-    requires { SlotsFit b.old at s
-        (front_handed [] [] number_kinds.now number_values.now string_kinds.now string_lengths.now) }
-    ensures { b.new ≡ put_at b.old at
-        (slots s (front_handed [] [] number_kinds.now number_values.now
-        string_kinds.now string_lengths.now)) }
+fn put_slots(b: &mut [u8], at: usize, s: Sizes, states: &States<'_>)
+    requires { SlotsFit b.old at s (handed_by [] states.now []) }
+    ensures { b.new ≡ put_at b.old at (slots s (handed_by [] states.now [])) }
 {
-    put::put_numbers(b, at, number_kinds, number_values, s.numbers);
-    put::put_slots(
-        b,
-        at + NUMBER_WIDTH * s.numbers,
-        string_kinds,
-        string_lengths,
-        s.strings,
-    );
+    let numbers = &states.numbers;
+    let strings = &states.strings;
+    put::put_numbers(b, at, numbers, s.numbers);
+    put::put_slots(b, at + NUMBER_WIDTH * s.numbers, strings, s.strings);
 }
 
 // All that stands before the string table.
-pub fn put_front(
-    b: &mut [u8],
-    s: Sizes,
-    names: &[u8],
-    boolean_kinds: &[u8],
-    number_kinds: &[u8],
-    number_values: &[u32],
-    string_kinds: &[u8],
-    string_lengths: &[usize],
-)
-    requires { FrontFits b.old s
-        (front_handed names.now boolean_kinds.now number_kinds.now number_values.now string_kinds.now
-        string_lengths.now) }
-    ensures { b.new ≡ put_at b.old 0
-        (front s (front_handed names.now boolean_kinds.now number_kinds.now
-        number_values.now string_kinds.now string_lengths.now)) }
+pub fn put_front(b: &mut [u8], s: Sizes, names: &[u8], states: &States<'_>)
+    requires { FrontFits b.old s (handed_by names.now states.now []) }
+    ensures { b.new ≡ put_at b.old 0 (front s (handed_by names.now states.now [])) }
 {
-    put_head(b, s, names, boolean_kinds);
-    put_slots(
-        b,
-        numbers_at(s),
-        s,
-        number_kinds,
-        number_values,
-        string_kinds,
-        string_lengths,
-    );
+    put_head(b, s, names, states);
+    put_slots(b, numbers_at(s), s, states);
 }
 
 // The file of what is handed over, whose sizes are s and whose strings stand in two lent slices.
@@ -138,41 +101,15 @@ pub fn write_sure(
     s: Sizes,
     e: Edition,
     names: &[u8],
-    boolean_kinds: &[u8],
-    number_kinds: &[u8],
-    number_values: &[u32],
-    string_kinds: &[u8],
-    string_starts: &[usize],
-    string_lengths: &[usize],
+    states: &States<'_>,
     first: &[u8],
     second: &[u8],
 )
-    requires { Sure b.old s e
-        (handed names.now boolean_kinds.now number_kinds.now number_values.now string_kinds.now
-        string_starts.now string_lengths.now (first.now ++ second.now)) first.now second.now }
+    requires { Sure b.old s e (handed_by names.now states.now (first.now ++ second.now)) first.now
+        second.now }
     ensures { b.new ≡ put_at b.old 0
-        (encode (entry_of e (handed names.now boolean_kinds.now number_kinds.now
-        number_values.now string_kinds.now string_starts.now
-        string_lengths.now (first.now ++ second.now)))) }
+        (encode (entry_of e (handed_by names.now states.now (first.now ++ second.now)))) }
 {
-    put_front(
-        b,
-        s,
-        names,
-        boolean_kinds,
-        number_kinds,
-        number_values,
-        string_kinds,
-        string_lengths,
-    );
-    put::put_table(
-        b,
-        table_at(s),
-        string_kinds,
-        string_starts,
-        string_lengths,
-        first,
-        second,
-        e.strings,
-    );
+    put_front(b, s, names, states);
+    put::put_table(b, table_at(s), &states.strings, first, second, e.strings);
 }

@@ -21,7 +21,7 @@ use Rattle.entry.specs.Writing.{Handed, header, padding, number_code, offset_cod
 use Rattle.entry_laws.specs.Parts.{length_padding, length_encode, before_table, at_table}
 use Rattle.put.specs.Table.{booleans_of, numbers_of, slots_of, HasLengths}
 use Rattle.put.proofs.TableLaws.{table_total, offsets_total, length_codes, length_shorts}
-use Rattle.entry.specs.Handed.{front_handed}
+use Rattle.entry.specs.Handed.{with_lent}
 use Rattle.write_laws.specs.File.{sizes_handed, entry_with, head, slots, front, FrontFits, Sure}
 
 -- ---- the written form by its parts, for strings of the kinds and lengths handed over
@@ -139,10 +139,10 @@ file_put e h g d b₀ b₁ b₂ {q} {s} u r w e₁ e₂ =
 
 -- where all is sure, the front fits
 pub front_fits : (b : List ℕ) (s : Sizes) (e : Edition) (h : Handed) (first second : List ℕ) → Sure b s e h first second
-    → FrontFits b s (front_handed h.names h.boolean_kinds h.number_kinds h.number_values h.string_kinds h.string_lengths)
+    → FrontFits b s (with_lent h [])
 front_fits b s e h first second f =
     let k = f.given in
-    subst (λ (z : Sizes). size_of z ≤ file_most → size_of z ≤ length b → FrontFits b z (front_handed h.names h.boolean_kinds h.number_kinds h.number_values h.string_kinds h.string_lengths)) (sym f.sized)
+    subst (λ (z : Sizes). size_of z ≤ file_most → size_of z ≤ length b → FrontFits b z (with_lent h [])) (sym f.sized)
     (λ m r. record {
       named = refl;
       booleans = k.booleans;

@@ -8,10 +8,13 @@ ghost use Rattle.word.specs.Nul.{nul_from};
 ghost use Rattle.entry.specs.Writing.{state_of, is_kind, enough_states, names_fit, is_lent, number_fits, content_fits};
 ghost use Rattle.entry.specs.Writing.{boolean_fits_at, number_fits_at, string_fits_at, states_fit};
 ghost use Rattle.put.specs.Table.{string_of};
-ghost use Rattle.entry.specs.Handed.{booleans_handed, numbers_handed, strings_handed, states_handed};
+ghost use Rattle.entry.specs.Handed.{booleans_handed, handed_by, numbers_by, strings_by};
 
 use edition::Edition;
-use entry::{CANCELLED, CONTENT_MOST, GIVEN_NAMES_LEAST, GIVEN_NAMES_MOST, NUMBER_MOST, PRESENT};
+use entry::{
+    CANCELLED, CONTENT_MOST, GIVEN_NAMES_LEAST, GIVEN_NAMES_MOST, NUMBER_MOST, Numbers, PRESENT,
+    States, Strings,
+};
 
 fn least(a: usize, b: usize) -> usize
     ensures { result ≡ min a b }
@@ -23,33 +26,22 @@ fn least(a: usize, b: usize) -> usize
 }
 
 // The edition is no larger than allowed, and each list has as many states as it counts.
-pub fn enough_states(
-    e: Edition,
-    boolean_kinds: &[u8],
-    number_kinds: &[u8],
-    number_values: &[u32],
-    string_kinds: &[u8],
-    string_starts: &[usize],
-    string_lengths: &[usize],
-) -> bool
-    ensures { result ≡ enough_states e
-        (states_handed boolean_kinds.now number_kinds.now number_values.now
-        string_kinds.now string_starts.now string_lengths.now []) }
+pub fn enough_states(e: Edition, states: &States<'_>) -> bool
+    ensures { result ≡ enough_states e (handed_by [] states.now []) }
 {
     if !edition::edition_ok(e) {
         return false;
     }
-    if boolean_kinds.len() < e.booleans {
+    if states.boolean_kinds.len() < e.booleans {
         return false;
     }
-    if least(number_kinds.len(), number_values.len()) < e.numbers {
+    let numbers = &states.numbers;
+    if least(numbers.kinds.len(), numbers.values.len()) < e.numbers {
         return false;
     }
-    e.strings
-        <= least(
-            string_kinds.len(),
-            least(string_starts.len(), string_lengths.len()),
-        )
+    let strings = &states.strings;
+    let content = least(strings.starts.len(), strings.lengths.len());
+    e.strings <= least(strings.kinds.len(), content)
 }
 
 fn no_nul(s: &[u8]) -> bool
@@ -86,26 +78,23 @@ fn is_lent(kind: u8, start: usize, size: usize, lent: usize) -> bool
 }
 
 // The first of n strings that is present and doesn't lie in what is lent.
-pub fn find_not_lent(
-    kinds: &[u8],
-    starts: &[usize],
-    lengths: &[usize],
-    lent: &[u8],
-    n: usize,
-) -> usize
-    requires { (n ≤ length kinds.now) × ((n ≤ length starts.now) × (n ≤ length lengths.now)) }
-    ensures { result ≡ scan (is_lent
-        (strings_handed kinds.now starts.now lengths.now lent.now)) 0 n }
+pub fn find_not_lent(strings: &Strings<'_>, lent: &[u8], n: usize) -> usize
+    requires { (n ≤ length strings.now.kinds.now)
+        × ((n ≤ length strings.now.starts.now) × (n ≤ length strings.now.lengths.now)) }
+    ensures { result ≡ scan (is_lent (strings_by strings.now lent.now)) 0 n }
 {
     let most = lent.len();
-    let mut i = 0;
-    while i < n {
-        if !is_lent(kinds[i], starts[i], lengths[i], most) {
+    for i in 0..n {
+        if !is_lent(
+            strings.kinds[i],
+            strings.starts[i],
+            strings.lengths[i],
+            most,
+        ) {
             return i;
         }
-        i += 1;
     }
-    i
+    n
 }
 
 // The first of n booleans that is past a limit.
@@ -113,14 +102,12 @@ fn find_boolean_past(kinds: &[u8], n: usize) -> usize
     requires { n ≤ length kinds.now }
     ensures { result ≡ scan (boolean_fits_at (booleans_handed kinds.now)) 0 n }
 {
-    let mut i = 0;
-    while i < n {
+    for i in 0..n {
         if CANCELLED < kinds[i] {
             return i;
         }
-        i += 1;
     }
-    i
+    n
 }
 
 fn number_fits(kind: u8, value: u32) -> bool
@@ -136,18 +123,16 @@ fn number_fits(kind: u8, value: u32) -> bool
 }
 
 // The first of n numbers that is past a limit.
-fn find_number_past(kinds: &[u8], values: &[u32], n: usize) -> usize
-    requires { (n ≤ length kinds.now) × (n ≤ length values.now) }
-    ensures { result ≡ scan (number_fits_at (numbers_handed kinds.now values.now)) 0 n }
+fn find_number_past(numbers: &Numbers<'_>, n: usize) -> usize
+    requires { (n ≤ length numbers.now.kinds.now) × (n ≤ length numbers.now.values.now) }
+    ensures { result ≡ scan (number_fits_at (numbers_by numbers.now)) 0 n }
 {
-    let mut i = 0;
-    while i < n {
-        if !number_fits(kinds[i], values[i]) {
+    for i in 0..n {
+        if !number_fits(numbers.kinds[i], numbers.values[i]) {
             return i;
         }
-        i += 1;
     }
-    i
+    n
 }
 
 fn string_fits(kind: u8, start: usize, size: usize, lent: &[u8]) -> bool
@@ -168,54 +153,36 @@ fn string_fits(kind: u8, start: usize, size: usize, lent: &[u8]) -> bool
 }
 
 // The first of n strings that is past a limit.
-fn find_string_past(
-    kinds: &[u8],
-    starts: &[usize],
-    lengths: &[usize],
-    lent: &[u8],
-    n: usize,
-) -> usize
-    requires { (n ≤ length kinds.now) × ((n ≤ length starts.now)
-        × ((n ≤ length lengths.now) × (every
-        (is_lent (strings_handed kinds.now starts.now lengths.now lent.now)) n ≡ true))) }
-    ensures { result ≡ scan (string_fits_at
-        (strings_handed kinds.now starts.now lengths.now lent.now)) 0 n }
+fn find_string_past(strings: &Strings<'_>, lent: &[u8], n: usize) -> usize
+    requires { (n ≤ length strings.now.kinds.now) × ((n ≤ length strings.now.starts.now)
+        × ((n ≤ length strings.now.lengths.now)
+        × (every (is_lent (strings_by strings.now lent.now)) n ≡ true))) }
+    ensures { result ≡ scan (string_fits_at (strings_by strings.now lent.now)) 0 n }
 {
-    let mut i = 0;
-    while i < n {
-        if !string_fits(kinds[i], starts[i], lengths[i], lent) {
+    for i in 0..n {
+        if !string_fits(
+            strings.kinds[i],
+            strings.starts[i],
+            strings.lengths[i],
+            lent,
+        ) {
             return i;
         }
-        i += 1;
     }
-    i
+    n
 }
 
 // Each state is within the limits.
-pub fn states_fit(
-    e: Edition,
-    boolean_kinds: &[u8],
-    number_kinds: &[u8],
-    number_values: &[u32],
-    string_kinds: &[u8],
-    string_starts: &[usize],
-    string_lengths: &[usize],
-    lent: &[u8],
-) -> bool
-    requires { (enough_states e (states_handed boolean_kinds.now number_kinds.now number_values.now
-        string_kinds.now string_starts.now string_lengths.now lent.now) ≡ true)
-        × (every (is_lent (strings_handed string_kinds.now string_starts.now string_lengths.now lent.now))
-        e.strings ≡ true) }
-    ensures { result ≡ states_fit e
-        (states_handed boolean_kinds.now number_kinds.now number_values.now
-        string_kinds.now string_starts.now string_lengths.now
-        lent.now) }
+pub fn states_fit(e: Edition, states: &States<'_>, lent: &[u8]) -> bool
+    requires { (enough_states e (handed_by [] states.now lent.now) ≡ true)
+        × (every (is_lent (handed_by [] states.now lent.now)) e.strings ≡ true) }
+    ensures { result ≡ states_fit e (handed_by [] states.now lent.now) }
 {
-    if find_boolean_past(boolean_kinds, e.booleans) != e.booleans {
+    if find_boolean_past(states.boolean_kinds, e.booleans) != e.booleans {
         return false;
     }
-    if find_number_past(number_kinds, number_values, e.numbers) != e.numbers {
+    if find_number_past(&states.numbers, e.numbers) != e.numbers {
         return false;
     }
-    find_string_past(string_kinds, string_starts, string_lengths, lent, e.strings) == e.strings
+    find_string_past(&states.strings, lent, e.strings) == e.strings
 }

@@ -8,7 +8,7 @@ returns-in-Boolean c =
     rw (
       c.in-Boolean.is,
       c.boolean_slot.ensures,
-      c.past.ensures,
+      c.saturating_sub.ensures,
       c.tables_for-t.ensures,
     )
 
@@ -17,7 +17,7 @@ unfolding tables_of
 returns-in-Number c =
     rw (
       c.in-Number.is,
-      c.past-index.ensures,
+      c.saturating_sub-index.ensures,
       c.tables_for-t.ensures,
     )
 
@@ -26,6 +26,6 @@ unfolding tables_of
 returns-in-Slot c =
     rw (
       c.in-Slot.is,
-      c.past-index-in-Slot.ensures,
+      c.saturating_sub-index-in-Slot.ensures,
       c.tables_for-t.ensures,
     )

@@ -1,27 +1,15 @@
--- `beside::folder` meets its contract. The loop's invariant: end is past the last slash of the bytes passed.
+-- `beside::folder` meets its contract, by the place of the last slash.
 -- Assumes nothing.
-use Prim.Native.Nat.{◌≤◌}
-use native.Mathlib.Omega.{arith}
-use lib.ListN.{length}
-use mathlib.Core.Path.{◌≡◌}
+use borrow.Author.Rules.{rules}
 use Rattle.shown.proofs.PutsLaws.{counted}
-use Rattle.beside.proofs.Laws.{folder_start}
+use Rattle.beside.proofs.Laws.{folder_at, folder_none}
 use Rattle.beside.proofs.folder.Goals as goal
 
-pub loop-i-init : goal.loop-i-init
-loop-i-init c = (omega arith, folder_start c.args.path.now)
+pub returns-in-Some-clause-value : goal.returns-in-Some-clause-value
+returns-in-Some-clause-value c = folder_at c.args.path.now c.in-Some.i (search rules) (search rules) (search rules)
 
-pub loop-i-preserved : goal.loop-i-preserved
-loop-i-preserved c = (omega arith, (c.behind-end.ensures.value, c.behind-end.ensures.few))
+pub returns-in-Some-clause-prefix_len : goal.returns-in-Some-clause-prefix_len
+returns-in-Some-clause-prefix_len c = counted _ c.args.path.now (search rules)
 
-pub returns-clause-value : goal.returns-clause-value
-returns-clause-value c =
-    let p = c.args.path.now in
-    let q : length p ≡ c.loop-i.i = omega arith in
-    rw q c.loop-i.invariant.1.0
-
-pub returns-clause-prefix_len : goal.returns-clause-prefix_len
-returns-clause-prefix_len c =
-    let p = c.args.path.now in
-    let h : c.loop-i.end ≤ length p = omega arith in
-    counted c.loop-i.end p h
+pub returns-in-None-clause-value : goal.returns-in-None-clause-value
+returns-in-None-clause-value c = folder_none c.args.path.now (search rules)

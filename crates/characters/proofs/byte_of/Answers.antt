@@ -12,12 +12,12 @@ use Rattle.characters.proofs.byte_of.Goals as goal
 pub returns-then-low-eq0 : goal.returns-then-low-eq0
 unfolding character
 returns-then-low-eq0 c =
-    let low : c.bits_of.result % 256 ≡ low32 c.args.v % 256 = rw (c.bits_of.ensures, to_z-of_z c.ranges.v, low_bits c.args.v c.ranges.v) in
+    let low : c.cast_unsigned.result % 256 ≡ low32 c.args.v % 256 = rw (c.cast_unsigned.ensures, to_z-of_z c.ranges.v, low_bits c.args.v c.ranges.v) in
     simp (eq-eqb _ _ (sym low ∙ c.if-low-eq0.true))
 
 pub returns-else-low-eq0 : goal.returns-else-low-eq0
 unfolding character
 returns-else-low-eq0 c =
-    let low : c.bits_of.result % 256 ≡ low32 c.args.v % 256 = rw (c.bits_of.ensures, to_z-of_z c.ranges.v, low_bits c.args.v c.ranges.v) in
+    let low : c.cast_unsigned.result % 256 ≡ low32 c.args.v % 256 = rw (c.cast_unsigned.ensures, to_z-of_z c.ranges.v, low_bits c.args.v c.ranges.v) in
     let e = low in
     simp (e, ne_eqb _ _ (rw e at c.if-low-eq0.false))

@@ -3,26 +3,25 @@
 use mathlib.Core.Path.{sym, ◌∙◌}
 use native.Mathlib.Omega.{arith}
 use Rattle.text_laws.specs.HeadingLaws.{header_right}
-use Rattle.compile_alone.proofs.Alone.{wants_has, header_malformed, header_long}
+use Rattle.compile_alone.proofs.Alone.{wants_has, header_bad}
 use Rattle.compile_alone.proofs.try_headed.Goals as goal
 
 pub slice_bounds-is_wanted-count : goal.slice_bounds-is_wanted-count
-slice_bounds-is_wanted-count c = let h = header_right c.args.text.now c.args.at _ (sym c.header_at.ensures ∙ c.in-Right.is) in let k = h.place in let l = h.within in omega arith
+slice_bounds-is_wanted-count c = let h = header_right c.args.text.now c.args.at _ (sym c.header_at.ensures ∙ c.in-Ok.is) in let k = h.place in let l = h.within in omega arith
 
 pub slice_bounds-is_wanted-start : goal.slice_bounds-is_wanted-start
-slice_bounds-is_wanted-start c = let h = header_right c.args.text.now c.args.at _ (sym c.header_at.ensures ∙ c.in-Right.is) in let k = h.place in let l = h.within in omega arith
+slice_bounds-is_wanted-start c = let h = header_right c.args.text.now c.args.at _ (sym c.header_at.ensures ∙ c.in-Ok.is) in let k = h.place in let l = h.within in omega arith
 
 pub slice_bounds-is_wanted-end : goal.slice_bounds-is_wanted-end
-slice_bounds-is_wanted-end c = let h = header_right c.args.text.now c.args.at _ (sym c.header_at.ensures ∙ c.in-Right.is) in let k = h.place in let l = h.within in omega arith
+slice_bounds-is_wanted-end c = let h = header_right c.args.text.now c.args.at _ (sym c.header_at.ensures ∙ c.in-Ok.is) in let k = h.place in let l = h.within in omega arith
 
 pub try_fields-requires : goal.try_fields-requires
-try_fields-requires c = (c.requires.0, (c.requires.1.0, sym c.header_at.ensures ∙ c.in-Right.is))
+try_fields-requires c = (c.requires.0, (c.requires.1.0, sym c.header_at.ensures ∙ c.in-Ok.is))
 
 pub returns-then-is_wanted : goal.returns-then-is_wanted
 returns-then-is_wanted c = c.try_fields.ensures _ (wants_has _ _ (sym c.is_wanted.ensures ∙ c.if-is_wanted.true))
 
-pub returns-in-Malformed : goal.returns-in-Malformed
-returns-in-Malformed c = header_malformed c.args.edition c.args.text.now _ c.args.buffer.now c.args.at c.requires.1.0 (sym c.header_at.ensures ∙ c.in-Malformed.is)
-
-pub returns-in-LongAlias : goal.returns-in-LongAlias
-returns-in-LongAlias c = header_long c.args.edition c.args.text.now _ c.args.buffer.now c.args.at c.requires.1.0 (sym c.header_at.ensures ∙ c.in-LongAlias.is)
+pub returns-in-Err : goal.returns-in-Err
+returns-in-Err c =
+    rw c.refused.ensures
+    (header_bad c.args.edition c.args.text.now _ c.args.buffer.now c.args.at c.requires.1.0 _ (sym c.header_at.ensures ∙ c.in-Err.is))

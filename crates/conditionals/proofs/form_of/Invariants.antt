@@ -7,8 +7,8 @@ use Rattle.expansion.specs.Form.{form_of}
 use Rattle.conditionals.specs.Walk.{nested_most, form_left}
 use Rattle.conditionals.proofs.form_of.Given as goal
 
-abbrev pub invariant-loop-i : goal.invariant-loop-i
-invariant-loop-i l = (form_of l.s ≡ form_left l.s l.i l.kept) × (l.kept ≤ nested_most)
+abbrev pub invariant-loop-p : goal.invariant-loop-p
+invariant-loop-p l = (form_of l.s ≡ form_left l.s l.i l.kept) × (l.kept ≤ nested_most)
 
-abbrev pub decreases-loop-i : goal.decreases-loop-i
-decreases-loop-i l = length l.s - l.i
+abbrev pub decreases-loop-p : goal.decreases-loop-p
+decreases-loop-p l = length l.s - l.i

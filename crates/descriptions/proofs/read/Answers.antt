@@ -11,18 +11,6 @@ read_from-requires c =
 pub returns-in-End : goal.returns-in-End
 returns-in-End c = begun_end _ _ (sym c.line_at.ensures ∙ c.in-End.is)
 
-pub shape_of-heads : goal.shape_of-heads
-shape_of-heads c = c.read_from.auto.heads
-
-pub shape_of-commas : goal.shape_of-commas
-shape_of-commas c = c.read_from.auto.commas
-
-pub shape_of-starts : goal.shape_of-starts
-shape_of-starts c = c.read_from.auto.starts
-
-pub shape_of-places : goal.shape_of-places
-shape_of-places c = c.read_from.auto.places
-
 pub returns-in-Column : goal.returns-in-Column
 returns-in-Column c = c.read_from.ensures
 

@@ -1,19 +1,19 @@
--- `entry_numbers::beyond_in` meets its contract: the numbers compared, then what opening answered.
+-- `entry_numbers::beyond_in` meets its contract: 17 where opening gives other numbers, else what opening gives.
 use mathlib.Core.Path.{sym, ap, ◌∙◌}
-use Rattle.entry.specs.Says.{says_opened}
-use Rattle.opened_file.proofs.Laws.{asking_unopened}
-use Rattle.entry_numbers.proofs.EntryLaws.{asked_other, asked_same}
-use Rattle.entry_numbers.proofs.Laws.{beyond_given}
-use Rattle.read.proofs.open.Reads as open-reads
-use Rattle.entry_numbers.proofs.numbers_of.Reads as numbers-of-reads
-use Rattle.entry_numbers.proofs.same_numbers.Reads as same-numbers-reads
+use Rattle.opened_file.proofs.Laws.{opened_err}
+use Rattle.entry_numbers.proofs.Laws.{asked_opened, asked_other, beyond_given, given_by}
 use Rattle.entry_numbers.proofs.beyond_in.Goals as goal
 
-pub returns-then-not-same_numbers : goal.returns-then-not-same_numbers
-returns-then-not-same_numbers c = asked_other _ _ _ _ _ c.open-o.ensures c.numbers_of.ensures c.same_numbers.ensures _ (c.if-not-same_numbers.true)
+pub returns-in_err-opened_as : goal.returns-in_err-opened_as
+returns-in_err-opened_as c = rw c.from_residual.ensures (sym (asked_other _ _ _ c.in_err-opened_as.ensures))
 
-pub returns-in-Entry : goal.returns-in-Entry
-returns-in-Entry c = asked_same _ _ _ _ _ c.open-o.ensures c.numbers_of.ensures c.same_numbers.ensures _ _ (c.if-not-same_numbers.false) (beyond_given _ _ _ _ (ap says_opened (sym c.in-Entry.is) ∙ c.open-o.ensures))
+pub returns-in_err-opening : goal.returns-in_err-opening
+returns-in_err-opening c =
+    rw c.from_residual-in_err-opening.ensures
+    (opened_err _ _ _ c.in_ok-opened_as.ensures.0 _ _ c.in_err-opening.ensures.value
+    ∙ sym (asked_opened _ _ _ _ c.in_ok-opened_as.ensures))
 
-pub returns-in-Refused : goal.returns-in-Refused
-returns-in-Refused c = asked_same _ _ _ _ _ c.open-o.ensures c.numbers_of.ensures c.same_numbers.ensures _ _ (c.if-not-same_numbers.false) (asking_unopened _ _ _ _ _ _ (ap says_opened (sym c.in-Refused.is) ∙ c.open-o.ensures))
+pub returns : goal.returns
+returns c =
+    beyond_given _ _ _ _ (given_by _ _ _ c.in_ok-opened_as.ensures.0 _ c.in_ok-opening.ensures.value)
+    ∙ sym (asked_opened _ _ _ _ c.in_ok-opened_as.ensures)

@@ -1,12 +1,11 @@
 -- `expand_run::run` meets its contract: each turn of its loop is a step of the definition's run, or three of them.
 -- Assumes nothing.
 use mathlib.Core.Path.{◌≡◌, refl, sym, ap, ◌∙◌}
-use mathlib.Core.List.{List, []}
-use mathlib.Core.Logic.{⊎_elim}
-use Prim.Native.Nat.{ℕ, ◌+◌, ◌-◌}
+use mathlib.Core.List.{[]}
+use Prim.Native.Nat.{ℕ, ◌+◌}
 use native.Mathlib.Omega.{arith}
-use lib.IntN.{ℤ, pos}
-use lib.ListN as L
+use lib.IntN.{ℤ}
+use lib.Seq.{get_or-set_other}
 use mir.Syntax.{w32}
 use mir.Val.{of_z, to_z}
 use mir.Facts.{to_z_pos}
@@ -19,7 +18,7 @@ use Rattle.expansion.specs.Arguments.{values_of}
 use Rattle.item_parts.specs.Right.{Simple}
 use Rattle.level_laws.proofs.RightLaws.{right_item}
 use Rattle.room_laws.specs.Room.{Value32}
-use Rattle.expand_run.specs.declared.Ran.TheVariants.{Done}
+use Rattle.std.specs.Prelude.{Ok}
 use Rattle.expand_run.proofs.StackLaws.{over, Popped}
 use Rattle.expand_run.proofs.Laws as G
 use Rattle.expand_run.proofs.TurnLaws as T
@@ -34,14 +33,14 @@ popped c h =
     let e = c.arity-pops.ensures in
     let R = c.loop-i.invariant.1 in
     elim c.if-pops-gt0.branch [
-      | goal.then-pops-gt0+else-depth-pops+in-Number-operand-6 w ↦
-          let b : to_z w32 (of_z w32 w.in-Number-operand-6.v) ≡ w.in-Number-operand-6.v = search rules in
+      | goal.then-pops-gt0+else-depth-pops+in-Number-stack-3 w ↦
+          let b : to_z w32 (of_z w32 w.in-Number-stack-3.top) ≡ w.in-Number-stack-3.top = search rules in
           G.simple_popped _ _ _ h (omega (arith, e, w.if-depth-pops.false)) _ _ _ (omega (arith, e, w.depth-is))
-          (λ _. T.element_is R _ w.in-Number-operand-6.is ∙ ap number (sym (w.b-is ∙ b)))
+          (λ _. T.element_is R _ w.in-Number-stack-3.is ∙ ap number (sym (w.b-is ∙ b)))
           (λ l. elim w.if-pops-gt1.branch [
-            | goal.then-pops-gt1+in-Number-left u ↦
-                let a : to_z w32 (of_z w32 u.in-Number-left.v) ≡ u.in-Number-left.v = search rules in
-                T.element_is R _ u.in-Number-left.is ∙ ap number (sym (w.a-is ∙ u.a-is ∙ a))
+            | goal.then-pops-gt1+in-Number-stack-4 u ↦
+                let a : to_z w32 (of_z w32 u.in-Number-stack-4.below) ≡ u.in-Number-stack-4.below = search rules in
+                T.element_is R _ u.in-Number-stack-4.is ∙ ap number (sym (w.a-is ∙ u.a-is ∙ a))
             | goal.else-pops-gt1 u ↦ absurd (omega (arith, e, u.if-pops-gt1.false))
           ])
       | goal.else-pops-gt0 w ↦
@@ -52,26 +51,14 @@ popped c h =
 pub loop-i-init : goal.loop-i-init
 loop-i-init c = ([], T.running_start _ _ _ _ _ (search rules) c.requires.1 c.requires.2)
 
-pub overflow_add-steps : goal.overflow_add-steps
-overflow_add-steps c = omega (arith, c.requires.0, c.loop-i.invariant.1.going.steps, c.loop-i-test.true)
-
 pub item_at-requires : goal.item_at-requires
 item_at-requires c = right_item c.loop-i.invariant.1.going.right c.loop-i-test.true
 
 pub overflow_add-length : goal.overflow_add-length
 overflow_add-length c = omega (arith, T.running_room c.loop-i.invariant.1 c.requires.0)
 
-pub overflow_add-i : goal.overflow_add-i
-overflow_add-i c = omega (arith, c.requires.0, c.loop-i-test.true)
-
-pub loop-i-smaller-in-Byte : goal.loop-i-smaller-in-Byte
-loop-i-smaller-in-Byte c = omega (arith, c.loop-i-test.true)
-
 pub loop-i-preserved-in-Byte : goal.loop-i-preserved-in-Byte
 loop-i-preserved-in-Byte c = (_, T.kept c.loop-i.invariant.1 (G.byte_gone c.loop-i.invariant.1.going c.loop-i-test.true (rw c.in-Byte.is at c.item_at.ensures).0 c.put_byte.ensures))
-
-pub shape_of-out-then-depth-ge-STACK_MOST : goal.shape_of-out-then-depth-ge-STACK_MOST
-shape_of-out-then-depth-ge-STACK_MOST c = c.loop-i.invariant.1.going.same
 
 pub returns-then-depth-ge-STACK_MOST : goal.returns-then-depth-ge-STACK_MOST
 returns-then-depth-ge-STACK_MOST c =
@@ -84,46 +71,13 @@ offset_bounds-given-n c = omega (arith, G.argument_below c.loop-i.invariant.1.go
 pub bounds-given-n : goal.bounds-given-n
 bounds-given-n c = omega (arith, c.loop-i.invariant.1.nine, G.argument_below c.loop-i.invariant.1.going c.loop-i-test.true (rw c.in-Argument.is at c.item_at.ensures).0)
 
-pub offset_bounds-stack-depth : goal.offset_bounds-stack-depth
-offset_bounds-stack-depth c = omega (arith, c.if-depth-ge-STACK_MOST.false)
-
-pub bounds-stack-depth : goal.bounds-stack-depth
-bounds-stack-depth c = omega (arith, c.loop-i.invariant.1.places, c.if-depth-ge-STACK_MOST.false)
-
-pub overflow_add-depth : goal.overflow_add-depth
-overflow_add-depth c = omega (arith, c.if-depth-ge-STACK_MOST.false)
-
-pub overflow_add-i-in-Argument : goal.overflow_add-i-in-Argument
-overflow_add-i-in-Argument c = omega (arith, c.requires.0, c.loop-i-test.true)
-
-pub loop-i-smaller-in-Argument : goal.loop-i-smaller-in-Argument
-loop-i-smaller-in-Argument c = omega (arith, c.loop-i-test.true)
-
 pub loop-i-preserved-in-Argument : goal.loop-i-preserved-in-Argument
 loop-i-preserved-in-Argument c = (_, T.argument_pushed c.loop-i.invariant.1 c.loop-i-test.true (rw c.in-Argument.is at c.item_at.ensures).0 c.if-depth-ge-STACK_MOST.false)
-
-pub overflow_add-result : goal.overflow_add-result
-overflow_add-result c = omega (arith, c.requires.0, c.loop-i-test.true)
-
-pub shape_of-out-then-depth-ge-STACK_MOST-2 : goal.shape_of-out-then-depth-ge-STACK_MOST-2
-shape_of-out-then-depth-ge-STACK_MOST-2 c = c.loop-i.invariant.1.going.same
 
 pub returns-then-depth-ge-STACK_MOST-2 : goal.returns-then-depth-ge-STACK_MOST-2
 returns-then-depth-ge-STACK_MOST-2 c =
     let y : run c.args.s.now (values_of c.args.texts.now c.args.arguments) c.args.lasting.now ≡ failed 16 (c.loop-i.i + 2) = T.test_full c.loop-i.invariant.1 c.loop-i-test.true (rw c.in-Test.is at c.item_at.ensures).0 (rw c.in-Test.is at c.item_at.ensures).1 c.if-depth-ge-STACK_MOST-2.true in
     rw y (record { answer = refl; output = tt; within = λ _ _. omega (arith, (rw c.in-Test.is at c.item_at.ensures).1.inside) })
-
-pub offset_bounds-given-n-in-Test : goal.offset_bounds-given-n-in-Test
-offset_bounds-given-n-in-Test c = omega (arith, (rw c.in-Test.is at c.item_at.ensures).1.few)
-
-pub bounds-given-n-in-Test : goal.bounds-given-n-in-Test
-bounds-given-n-in-Test c = omega (arith, c.loop-i.invariant.1.nine, (rw c.in-Test.is at c.item_at.ensures).1.few)
-
-pub overflow_add-steps-in-Number-operand : goal.overflow_add-steps-in-Number-operand
-overflow_add-steps-in-Number-operand c = omega (arith, c.requires.0, c.loop-i.invariant.1.going.steps, c.loop-i-test.true)
-
-pub overflow_add-i-then-v-eq0 : goal.overflow_add-i-then-v-eq0
-overflow_add-i-then-v-eq0 c = omega (arith, c.requires.0, c.loop-i-test.true)
 
 pub pass-i-requires : goal.pass-i-requires
 pass-i-requires c = (c.requires.0, T.test_open c.loop-i.invariant.1 c.loop-i-test.true (rw c.in-Test.is at c.item_at.ensures).0 (rw c.in-Test.is at c.item_at.ensures).1 c.if-depth-ge-STACK_MOST-2.false)
@@ -132,84 +86,47 @@ pub loop-i-smaller-then-v-eq0 : goal.loop-i-smaller-then-v-eq0
 loop-i-smaller-then-v-eq0 c = omega (arith, c.loop-i-test.true, T.test_further c.loop-i.invariant.1 c.loop-i-test.true (rw c.in-Test.is at c.item_at.ensures).0 (rw c.in-Test.is at c.item_at.ensures).1 c.if-depth-ge-STACK_MOST-2.false c.pass-i.ensures)
 
 pub loop-i-preserved-then-v-eq0 : goal.loop-i-preserved-then-v-eq0
-loop-i-preserved-then-v-eq0 c = (_, T.test_past c.loop-i.invariant.1 c.loop-i-test.true (rw c.in-Test.is at c.item_at.ensures).0 (rw c.in-Test.is at c.item_at.ensures).1 c.if-depth-ge-STACK_MOST-2.false c.in-Number-operand.is (zero_yes c.in-Number-operand.v (let f = c.in-Number-operand.known_told-in-Number-1-own.given in search rules) c.if-v-eq0.true) c.pass-i.ensures)
-
-pub overflow_add-i-else-v-eq0 : goal.overflow_add-i-else-v-eq0
-overflow_add-i-else-v-eq0 c = omega (arith, c.requires.0, c.loop-i-test.true)
-
-pub loop-i-smaller-else-v-eq0 : goal.loop-i-smaller-else-v-eq0
-loop-i-smaller-else-v-eq0 c = omega (arith, c.loop-i-test.true)
+loop-i-preserved-then-v-eq0 c = (_, T.test_past c.loop-i.invariant.1 c.loop-i-test.true (rw c.in-Test.is at c.item_at.ensures).0 (rw c.in-Test.is at c.item_at.ensures).1 c.if-depth-ge-STACK_MOST-2.false c.in-Number-operand.is (zero_yes c.in-Number-operand.v (search rules) c.if-v-eq0.true) c.pass-i.ensures)
 
 pub loop-i-preserved-else-v-eq0 : goal.loop-i-preserved-else-v-eq0
 loop-i-preserved-else-v-eq0 c = (_, T.test_gone c.loop-i.invariant.1 c.loop-i-test.true (rw c.in-Test.is at c.item_at.ensures).0 (rw c.in-Test.is at c.item_at.ensures).1 c.if-depth-ge-STACK_MOST-2.false c.in-Number-operand.is (zero_no c.in-Number-operand.v c.if-v-eq0.false))
 
-pub overflow_add-result-in-Text-operand : goal.overflow_add-result-in-Text-operand
-overflow_add-result-in-Text-operand c = omega (arith, c.requires.0, c.loop-i-test.true)
-
-pub shape_of-out-in-Text-operand : goal.shape_of-out-in-Text-operand
-shape_of-out-in-Text-operand c = c.loop-i.invariant.1.going.same
-
-pub returns-in-Text-operand : goal.returns-in-Text-operand
-returns-in-Text-operand c =
-    let y : run c.args.s.now (values_of c.args.texts.now c.args.arguments) c.args.lasting.now ≡ failed 21 (c.loop-i.i + 5) = T.test_other c.loop-i.invariant.1 c.loop-i-test.true (rw c.in-Test.is at c.item_at.ensures).0 (rw c.in-Test.is at c.item_at.ensures).1 c.if-depth-ge-STACK_MOST-2.false c.in-Text-operand.is in
+pub returns-in_default : goal.returns-in_default
+returns-in_default c =
+    let y : run c.args.s.now (values_of c.args.texts.now c.args.arguments) c.args.lasting.now ≡ failed 21 (c.loop-i.i + 5) = T.test_other c.loop-i.invariant.1 c.loop-i-test.true (rw c.in-Test.is at c.item_at.ensures).0 (rw c.in-Test.is at c.item_at.ensures).1 c.if-depth-ge-STACK_MOST-2.false c.in_default.is in
     rw y (record { answer = refl; output = tt; within = λ _ _. omega (arith, (rw c.in-Test.is at c.item_at.ensures).1.inside) })
-
-pub shape_of-out-then-depth-lt1 : goal.shape_of-out-then-depth-lt1
-shape_of-out-then-depth-lt1 c = c.loop-i.invariant.1.going.same
 
 pub returns-then-depth-lt1 : goal.returns-then-depth-lt1
 returns-then-depth-lt1 c =
     let y : run c.args.s.now (values_of c.args.texts.now c.args.arguments) c.args.lasting.now ≡ failed 15 c.loop-i.i = G.number_empty c.loop-i.invariant.1.going c.loop-i-test.true (rw c.in-Number.is at c.item_at.ensures).0 c.if-depth-lt1.true in
     rw y (record { answer = refl; output = tt; within = λ _ _. c.loop-i-test.true })
 
-pub offset_bounds-stack-depth-in-Number : goal.offset_bounds-stack-depth-in-Number
-offset_bounds-stack-depth-in-Number c = omega (arith, c.loop-i.invariant.1.going.depth)
+pub put_number-length-requires : goal.put_number-length-requires
+put_number-length-requires c = omega (arith, T.running_room c.loop-i.invariant.1 c.requires.0)
 
-pub bounds-stack-depth-in-Number : goal.bounds-stack-depth-in-Number
-bounds-stack-depth-in-Number c = omega (arith, c.loop-i.invariant.1.going.depth, c.loop-i.invariant.1.places, c.if-depth-lt1.false)
+pub overflow_add-length-in-Number : goal.overflow_add-length-in-Number
+overflow_add-length-in-Number c = omega (arith, T.running_room c.loop-i.invariant.1 c.requires.0, c.put_number-length.ensures.1)
 
-pub put_number-count-requires : goal.put_number-count-requires
-put_number-count-requires c = omega (arith, T.running_room c.loop-i.invariant.1 c.requires.0)
+pub loop-i-smaller-in-Number : goal.loop-i-smaller-in-Number
+loop-i-smaller-in-Number c = omega (arith, c.loop-i-test.true, G.going_leads c.loop-i.invariant.1.going _ (rw c.in-Number.is at c.item_at.ensures).0 c.loop-i-test.true)
 
-pub overflow_add-length-in-Number-operand-2 : goal.overflow_add-length-in-Number-operand-2
-overflow_add-length-in-Number-operand-2 c = omega (arith, T.running_room c.loop-i.invariant.1 c.requires.0, c.put_number-count.ensures.1)
+pub loop-i-preserved-in-Number : goal.loop-i-preserved-in-Number
+loop-i-preserved-in-Number c =
+    let v : ℤ = c.in-Number-stack.v in
+    let e : to_z w32 (of_z w32 c.in-Number-stack.v) ≡ c.in-Number-stack.v = search rules in
+    let p = rw e at c.put_number-length.ensures in
+    let m : Value32 c.in-Number-stack.v = rw e at (G.value_of (of_z w32 c.in-Number-stack.v)) in
+    (_, T.kept c.loop-i.invariant.1 (G.number_gone c.loop-i.invariant.1.going c.loop-i-test.true (rw c.in-Number.is at c.item_at.ensures).0 c.if-depth-lt1.false (T.element_is c.loop-i.invariant.1 _ c.in-Number-stack.is) m (ap (λ (n : ℕ). c.loop-i.length + n) p.0) p.2))
 
-pub loop-i-smaller-in-Number-operand-2 : goal.loop-i-smaller-in-Number-operand-2
-loop-i-smaller-in-Number-operand-2 c = omega (arith, c.loop-i-test.true, G.going_leads c.loop-i.invariant.1.going _ (rw c.in-Number.is at c.item_at.ensures).0 c.loop-i-test.true)
-
-pub loop-i-preserved-in-Number-operand-2 : goal.loop-i-preserved-in-Number-operand-2
-loop-i-preserved-in-Number-operand-2 c =
-    let f = c.in-Number-operand-2.known_told-in-Number-operand-2-1-own.given in
-    let v : ℤ = c.in-Number-operand-2.v in
-    let e : to_z w32 (of_z w32 c.in-Number-operand-2.v) ≡ c.in-Number-operand-2.v = search rules in
-    let p = rw e at c.put_number-count.ensures in
-    let m : Value32 c.in-Number-operand-2.v = rw e at (G.value_of (of_z w32 c.in-Number-operand-2.v)) in
-    (_, T.kept c.loop-i.invariant.1 (G.number_gone c.loop-i.invariant.1.going c.loop-i-test.true (rw c.in-Number.is at c.item_at.ensures).0 c.if-depth-lt1.false (T.element_is c.loop-i.invariant.1 _ c.in-Number-operand-2.is) m (ap (λ (n : ℕ). c.loop-i.length + n) p.0) p.2))
-
-pub shape_of-out-in-Text-operand-2 : goal.shape_of-out-in-Text-operand-2
-shape_of-out-in-Text-operand-2 c = c.loop-i.invariant.1.going.same
-
-pub returns-in-Text-operand-2 : goal.returns-in-Text-operand-2
-returns-in-Text-operand-2 c =
-    let y : run c.args.s.now (values_of c.args.texts.now c.args.arguments) c.args.lasting.now ≡ failed 21 c.loop-i.i = G.number_other c.loop-i.invariant.1.going c.loop-i-test.true (rw c.in-Number.is at c.item_at.ensures).0 c.if-depth-lt1.false (ap is_text (T.element_is c.loop-i.invariant.1 _ c.in-Text-operand-2.is)) in
+pub returns-in_default-stack : goal.returns-in_default-stack
+returns-in_default-stack c =
+    let y : run c.args.s.now (values_of c.args.texts.now c.args.arguments) c.args.lasting.now ≡ failed 21 c.loop-i.i = G.number_other c.loop-i.invariant.1.going c.loop-i-test.true (rw c.in-Number.is at c.item_at.ensures).0 c.if-depth-lt1.false (ap is_text (T.element_is c.loop-i.invariant.1 _ c.in_default-stack.is)) in
     rw y (record { answer = refl; output = tt; within = λ _ _. c.loop-i-test.true })
-
-pub shape_of-out-then-depth-ge-STACK_MOST-3 : goal.shape_of-out-then-depth-ge-STACK_MOST-3
-shape_of-out-then-depth-ge-STACK_MOST-3 c = c.loop-i.invariant.1.going.same
 
 pub returns-then-depth-ge-STACK_MOST-3 : goal.returns-then-depth-ge-STACK_MOST-3
 returns-then-depth-ge-STACK_MOST-3 c =
     let y : run c.args.s.now (values_of c.args.texts.now c.args.arguments) c.args.lasting.now ≡ failed 16 c.loop-i.i = G.constant_full c.loop-i.invariant.1.going c.loop-i-test.true (rw c.in-Constant.is at c.item_at.ensures).0 c.if-depth-ge-STACK_MOST-3.true in
     rw y (record { answer = refl; output = tt; within = λ _ _. c.loop-i-test.true })
-
-pub offset_bounds-stack-depth-in-Constant : goal.offset_bounds-stack-depth-in-Constant
-offset_bounds-stack-depth-in-Constant c = omega (arith, c.if-depth-ge-STACK_MOST-3.false)
-
-pub bounds-stack-depth-in-Constant : goal.bounds-stack-depth-in-Constant
-bounds-stack-depth-in-Constant c = omega (arith, c.loop-i.invariant.1.places, c.if-depth-ge-STACK_MOST-3.false)
-
-pub overflow_add-depth-in-Constant : goal.overflow_add-depth-in-Constant
-overflow_add-depth-in-Constant c = omega (arith, c.if-depth-ge-STACK_MOST-3.false)
 
 pub loop-i-smaller-in-Constant : goal.loop-i-smaller-in-Constant
 loop-i-smaller-in-Constant c = omega (arith, c.loop-i-test.true, G.going_leads c.loop-i.invariant.1.going _ (rw c.in-Constant.is at c.item_at.ensures).0 c.loop-i-test.true)
@@ -217,128 +134,52 @@ loop-i-smaller-in-Constant c = omega (arith, c.loop-i-test.true, G.going_leads c
 pub loop-i-preserved-in-Constant : goal.loop-i-preserved-in-Constant
 loop-i-preserved-in-Constant c =
     let g = T.constant_pushed c.loop-i.invariant.1 c.loop-i-test.true (rw c.in-Constant.is at c.item_at.ensures).0 c.if-depth-ge-STACK_MOST-3.false in
-    let f = c.in-Constant.known_told-in-Constant-1-own.given in
     let e : to_z w32 (of_z w32 c.in-Constant.value) ≡ c.in-Constant.value = search rules in
     (c.loop-i.invariant.0, rw e g)
 
-pub bounds-given-0 : goal.bounds-given-0
-bounds-given-0 c = omega (arith, c.loop-i.invariant.1.nine)
-
-pub bounds-given-1 : goal.bounds-given-1
-bounds-given-1 c = omega (arith, c.loop-i.invariant.1.nine)
-
-pub bounds-given-0-in-Increment : goal.bounds-given-0-in-Increment
-bounds-given-0-in-Increment c = omega (arith, c.loop-i.invariant.1.nine)
-
-pub bounds-given-1-in-Increment : goal.bounds-given-1-in-Increment
-bounds-given-1-in-Increment c = omega (arith, c.loop-i.invariant.1.nine, L.length-set c.loop-i.given 0 c.raised.result)
-
-pub overflow_add-i-in-Increment : goal.overflow_add-i-in-Increment
-overflow_add-i-in-Increment c = omega (arith, c.requires.0, c.loop-i-test.true)
-
-pub loop-i-smaller-in-Increment : goal.loop-i-smaller-in-Increment
-loop-i-smaller-in-Increment c = omega (arith, c.loop-i-test.true)
-
 pub loop-i-preserved-in-Increment : goal.loop-i-preserved-in-Increment
-loop-i-preserved-in-Increment c = (c.loop-i.invariant.0, rw (c.raised.ensures, c.raised-in-Increment.ensures) (T.incremented_gone c.loop-i.invariant.1 c.loop-i-test.true (rw c.in-Increment.is at c.item_at.ensures).0))
-
-pub shape_of-out-then-depth-lt1-2 : goal.shape_of-out-then-depth-lt1-2
-shape_of-out-then-depth-lt1-2 c = c.loop-i.invariant.1.going.same
+loop-i-preserved-in-Increment c = (c.loop-i.invariant.0, rw (c.raised.ensures, c.raised-in-Increment.ensures, get_or-set_other c.loop-i.given 0 1 c.raised.result T.no_argument (λ e. omega arith)) (T.incremented_gone c.loop-i.invariant.1 c.loop-i-test.true (rw c.in-Increment.is at c.item_at.ensures).0))
 
 pub returns-then-depth-lt1-2 : goal.returns-then-depth-lt1-2
 returns-then-depth-lt1-2 c =
     let y : run c.args.s.now (values_of c.args.texts.now c.args.arguments) c.args.lasting.now ≡ failed 15 c.loop-i.i = G.text_empty c.loop-i.invariant.1.going c.loop-i-test.true (rw c.in-Text.is at c.item_at.ensures).0 c.if-depth-lt1-2.true in
     rw y (record { answer = refl; output = tt; within = λ _ _. c.loop-i-test.true })
 
-pub offset_bounds-stack-depth-in-Text : goal.offset_bounds-stack-depth-in-Text
-offset_bounds-stack-depth-in-Text c = omega (arith, c.loop-i.invariant.1.going.depth)
-
-pub bounds-stack-depth-in-Text : goal.bounds-stack-depth-in-Text
-bounds-stack-depth-in-Text c = omega (arith, c.loop-i.invariant.1.going.depth, c.loop-i.invariant.1.places, c.if-depth-lt1-2.false)
-
-pub shape_of-out-in-Number-operand-3 : goal.shape_of-out-in-Number-operand-3
-shape_of-out-in-Number-operand-3 c = c.loop-i.invariant.1.going.same
-
-pub returns-in-Number-operand-3 : goal.returns-in-Number-operand-3
-returns-in-Number-operand-3 c =
-    let y : run c.args.s.now (values_of c.args.texts.now c.args.arguments) c.args.lasting.now ≡ failed 21 c.loop-i.i = G.text_other c.loop-i.invariant.1.going c.loop-i-test.true (rw c.in-Text.is at c.item_at.ensures).0 c.if-depth-lt1-2.false (ap is_text (T.element_is c.loop-i.invariant.1 _ c.in-Number-operand-3.is)) in
+pub returns-in_default-stack-2 : goal.returns-in_default-stack-2
+returns-in_default-stack-2 c =
+    let y : run c.args.s.now (values_of c.args.texts.now c.args.arguments) c.args.lasting.now ≡ failed 21 c.loop-i.i = G.text_other c.loop-i.invariant.1.going c.loop-i-test.true (rw c.in-Text.is at c.item_at.ensures).0 c.if-depth-lt1-2.false (ap is_text (T.element_is c.loop-i.invariant.1 _ c.in_default-stack-2.is)) in
     rw y (record { answer = refl; output = tt; within = λ _ _. c.loop-i-test.true })
 
 pub put_text-requires : goal.put_text-requires
-put_text-requires c = (omega (arith, T.running_room c.loop-i.invariant.1 c.requires.0), (T.text_judged c.loop-i.invariant.1 _ c.in-Text-operand-3.is).1, (T.text_judged c.loop-i.invariant.1 _ c.in-Text-operand-3.is).0)
+put_text-requires c = (omega (arith, T.running_room c.loop-i.invariant.1 c.requires.0), (T.text_judged c.loop-i.invariant.1 _ c.in-Text-stack.is).1, (T.text_judged c.loop-i.invariant.1 _ c.in-Text-stack.is).0)
 
-pub overflow_add-length-in-Text-operand-3 : goal.overflow_add-length-in-Text-operand-3
-overflow_add-length-in-Text-operand-3 c = omega (arith, T.running_room c.loop-i.invariant.1 c.requires.0, (T.text_judged c.loop-i.invariant.1 _ c.in-Text-operand-3.is).1)
+pub overflow_add-length-in-Text : goal.overflow_add-length-in-Text
+overflow_add-length-in-Text c = omega (arith, T.running_room c.loop-i.invariant.1 c.requires.0, (T.text_judged c.loop-i.invariant.1 _ c.in-Text-stack.is).1)
 
-pub overflow_add-i-in-Text-operand-3 : goal.overflow_add-i-in-Text-operand-3
-overflow_add-i-in-Text-operand-3 c = omega (arith, c.requires.0, c.loop-i-test.true)
-
-pub loop-i-smaller-in-Text-operand-3 : goal.loop-i-smaller-in-Text-operand-3
-loop-i-smaller-in-Text-operand-3 c = omega (arith, c.loop-i-test.true)
-
-pub loop-i-preserved-in-Text-operand-3 : goal.loop-i-preserved-in-Text-operand-3
-loop-i-preserved-in-Text-operand-3 c = (_, T.text_gone c.loop-i.invariant.1 c.loop-i-test.true (rw c.in-Text.is at c.item_at.ensures).0 c.if-depth-lt1-2.false c.in-Text-operand-3.is c.put_text.ensures)
-
-pub shape_of-out-then-depth-lt1-3 : goal.shape_of-out-then-depth-lt1-3
-shape_of-out-then-depth-lt1-3 c = c.loop-i.invariant.1.going.same
+pub loop-i-preserved-in-Text : goal.loop-i-preserved-in-Text
+loop-i-preserved-in-Text c = (_, T.text_gone c.loop-i.invariant.1 c.loop-i-test.true (rw c.in-Text.is at c.item_at.ensures).0 c.if-depth-lt1-2.false c.in-Text-stack.is c.put_text.ensures)
 
 pub returns-then-depth-lt1-3 : goal.returns-then-depth-lt1-3
 returns-then-depth-lt1-3 c =
     let y : run c.args.s.now (values_of c.args.texts.now c.args.arguments) c.args.lasting.now ≡ failed 15 c.loop-i.i = G.length_empty c.loop-i.invariant.1.going c.loop-i-test.true (rw c.in-Length.is at c.item_at.ensures).0 c.if-depth-lt1-3.true in
     rw y (record { answer = refl; output = tt; within = λ _ _. c.loop-i-test.true })
 
-pub offset_bounds-stack-depth-in-Length : goal.offset_bounds-stack-depth-in-Length
-offset_bounds-stack-depth-in-Length c = omega (arith, c.loop-i.invariant.1.going.depth)
-
-pub bounds-stack-depth-in-Length : goal.bounds-stack-depth-in-Length
-bounds-stack-depth-in-Length c = omega (arith, c.loop-i.invariant.1.going.depth, c.loop-i.invariant.1.places, c.if-depth-lt1-3.false)
-
-pub shape_of-out-in-Number-operand-4 : goal.shape_of-out-in-Number-operand-4
-shape_of-out-in-Number-operand-4 c = c.loop-i.invariant.1.going.same
-
-pub returns-in-Number-operand-4 : goal.returns-in-Number-operand-4
-returns-in-Number-operand-4 c =
-    let y : run c.args.s.now (values_of c.args.texts.now c.args.arguments) c.args.lasting.now ≡ failed 21 c.loop-i.i = G.length_other c.loop-i.invariant.1.going c.loop-i-test.true (rw c.in-Length.is at c.item_at.ensures).0 c.if-depth-lt1-3.false (ap is_text (T.element_is c.loop-i.invariant.1 _ c.in-Number-operand-4.is)) in
+pub returns-in_default-stack-3 : goal.returns-in_default-stack-3
+returns-in_default-stack-3 c =
+    let y : run c.args.s.now (values_of c.args.texts.now c.args.arguments) c.args.lasting.now ≡ failed 21 c.loop-i.i = G.length_other c.loop-i.invariant.1.going c.loop-i-test.true (rw c.in-Length.is at c.item_at.ensures).0 c.if-depth-lt1-3.false (ap is_text (T.element_is c.loop-i.invariant.1 _ c.in_default-stack-3.is)) in
     rw y (record { answer = refl; output = tt; within = λ _ _. c.loop-i-test.true })
 
 pub overflow_cast-stack : goal.overflow_cast-stack
-overflow_cast-stack c = record { sfits = omega (arith, (T.text_judged c.loop-i.invariant.1 _ c.in-Text-operand-4.is).1) }
+overflow_cast-stack c = record { sfits = omega (arith, (T.text_judged c.loop-i.invariant.1 _ c.in-Text-stack-2.is).1) }
 
-pub offset_bounds-stack-depth-in-Text-operand-4 : goal.offset_bounds-stack-depth-in-Text-operand-4
-offset_bounds-stack-depth-in-Text-operand-4 c = omega (arith, c.loop-i.invariant.1.going.depth)
-
-pub bounds-stack-depth-in-Text-operand-4 : goal.bounds-stack-depth-in-Text-operand-4
-bounds-stack-depth-in-Text-operand-4 c = omega (arith, c.loop-i.invariant.1.going.depth, c.loop-i.invariant.1.places, c.if-depth-lt1-3.false)
-
-pub overflow_add-i-in-Text-operand-4 : goal.overflow_add-i-in-Text-operand-4
-overflow_add-i-in-Text-operand-4 c = omega (arith, c.requires.0, c.loop-i-test.true)
-
-pub loop-i-smaller-in-Text-operand-4 : goal.loop-i-smaller-in-Text-operand-4
-loop-i-smaller-in-Text-operand-4 c = omega (arith, c.loop-i-test.true)
-
-pub loop-i-preserved-in-Text-operand-4 : goal.loop-i-preserved-in-Text-operand-4
-loop-i-preserved-in-Text-operand-4 c = (c.loop-i.invariant.0, rw (to_z_pos w32 {n = c.in-Text-operand-4.n} (omega (arith, (T.text_judged c.loop-i.invariant.1 _ c.in-Text-operand-4.is).1))) (T.length_gone c.loop-i.invariant.1 c.loop-i-test.true (rw c.in-Length.is at c.item_at.ensures).0 c.if-depth-lt1-3.false c.in-Text-operand-4.is))
-
-pub overflow_add-i-in-If : goal.overflow_add-i-in-If
-overflow_add-i-in-If c = omega (arith, c.requires.0, c.loop-i-test.true)
-
-pub loop-i-smaller-in-If : goal.loop-i-smaller-in-If
-loop-i-smaller-in-If c = omega (arith, c.loop-i-test.true)
+pub loop-i-preserved-in-Length : goal.loop-i-preserved-in-Length
+loop-i-preserved-in-Length c = (c.loop-i.invariant.0, rw (to_z_pos w32 {n = c.in-Text-stack-2.n} (omega (arith, (T.text_judged c.loop-i.invariant.1 _ c.in-Text-stack-2.is).1))) (T.length_gone c.loop-i.invariant.1 c.loop-i-test.true (rw c.in-Length.is at c.item_at.ensures).0 c.if-depth-lt1-3.false c.in-Text-stack-2.is))
 
 pub loop-i-preserved-in-If : goal.loop-i-preserved-in-If
 loop-i-preserved-in-If c = (_, T.kept c.loop-i.invariant.1 (G.if_gone c.loop-i.invariant.1.going c.loop-i-test.true (rw c.in-If.is at c.item_at.ensures).0))
 
-pub overflow_add-i-in-End : goal.overflow_add-i-in-End
-overflow_add-i-in-End c = omega (arith, c.requires.0, c.loop-i-test.true)
-
-pub loop-i-smaller-in-End : goal.loop-i-smaller-in-End
-loop-i-smaller-in-End c = omega (arith, c.loop-i-test.true)
-
 pub loop-i-preserved-in-End : goal.loop-i-preserved-in-End
 loop-i-preserved-in-End c = (_, T.kept c.loop-i.invariant.1 (G.end_gone c.loop-i.invariant.1.going c.loop-i-test.true (rw c.in-End.is at c.item_at.ensures).0))
-
-pub overflow_add-i-in-Else : goal.overflow_add-i-in-Else
-overflow_add-i-in-Else c = omega (arith, c.requires.0, c.loop-i-test.true)
 
 pub pass-i-requires-in-Else : goal.pass-i-requires-in-Else
 pass-i-requires-in-Else c = (c.requires.0, G.else_open c.loop-i.invariant.1.going c.loop-i-test.true (rw c.in-Else.is at c.item_at.ensures).0)
@@ -349,22 +190,10 @@ loop-i-smaller-in-Else c = omega (arith, c.loop-i-test.true, G.else_further c.lo
 pub loop-i-preserved-in-Else : goal.loop-i-preserved-in-Else
 loop-i-preserved-in-Else c = (_, T.kept c.loop-i.invariant.1 (G.else_past c.loop-i.invariant.1.going c.loop-i-test.true (rw c.in-Else.is at c.item_at.ensures).0 c.pass-i-in-Else.ensures))
 
-pub shape_of-out-then-depth-lt1-4 : goal.shape_of-out-then-depth-lt1-4
-shape_of-out-then-depth-lt1-4 c = c.loop-i.invariant.1.going.same
-
 pub returns-then-depth-lt1-4 : goal.returns-then-depth-lt1-4
 returns-then-depth-lt1-4 c =
     let y : run c.args.s.now (values_of c.args.texts.now c.args.arguments) c.args.lasting.now ≡ failed 15 c.loop-i.i = G.then_empty c.loop-i.invariant.1.going c.loop-i-test.true (rw c.in-Then.is at c.item_at.ensures).0 c.if-depth-lt1-4.true in
     rw y (record { answer = refl; output = tt; within = λ _ _. c.loop-i-test.true })
-
-pub offset_bounds-stack-depth-in-Then : goal.offset_bounds-stack-depth-in-Then
-offset_bounds-stack-depth-in-Then c = omega (arith, c.loop-i.invariant.1.going.depth)
-
-pub bounds-stack-depth-in-Then : goal.bounds-stack-depth-in-Then
-bounds-stack-depth-in-Then c = omega (arith, c.loop-i.invariant.1.going.depth, c.loop-i.invariant.1.places, c.if-depth-lt1-4.false)
-
-pub overflow_add-i-then-v-eq0-2 : goal.overflow_add-i-then-v-eq0-2
-overflow_add-i-then-v-eq0-2 c = omega (arith, c.requires.0, c.loop-i-test.true)
 
 pub pass-i-requires-then-v-eq0-2 : goal.pass-i-requires-then-v-eq0-2
 pass-i-requires-then-v-eq0-2 c = (c.requires.0, G.then_open c.loop-i.invariant.1.going c.loop-i-test.true (rw c.in-Then.is at c.item_at.ensures).0)
@@ -373,65 +202,29 @@ pub loop-i-smaller-then-v-eq0-2 : goal.loop-i-smaller-then-v-eq0-2
 loop-i-smaller-then-v-eq0-2 c = omega (arith, c.loop-i-test.true, G.then_further c.loop-i.invariant.1.going c.loop-i-test.true (rw c.in-Then.is at c.item_at.ensures).0 c.pass-i-then-v-eq0-2.ensures)
 
 pub loop-i-preserved-then-v-eq0-2 : goal.loop-i-preserved-then-v-eq0-2
-loop-i-preserved-then-v-eq0-2 c = (_, T.kept c.loop-i.invariant.1 (G.then_past c.loop-i.invariant.1.going c.loop-i-test.true (rw c.in-Then.is at c.item_at.ensures).0 c.if-depth-lt1-4.false (T.element_is c.loop-i.invariant.1 _ c.in-Number-operand-5.is) (zero_yes c.in-Number-operand-5.v (let f = c.in-Number-operand-5.known_told-in-Number-operand-5-1-own.given in search rules) c.if-v-eq0-2.true) c.pass-i-then-v-eq0-2.ensures))
-
-pub overflow_add-i-else-v-eq0-2 : goal.overflow_add-i-else-v-eq0-2
-overflow_add-i-else-v-eq0-2 c = omega (arith, c.requires.0, c.loop-i-test.true)
-
-pub loop-i-smaller-else-v-eq0-2 : goal.loop-i-smaller-else-v-eq0-2
-loop-i-smaller-else-v-eq0-2 c = omega (arith, c.loop-i-test.true)
+loop-i-preserved-then-v-eq0-2 c = (_, T.kept c.loop-i.invariant.1 (G.then_past c.loop-i.invariant.1.going c.loop-i-test.true (rw c.in-Then.is at c.item_at.ensures).0 c.if-depth-lt1-4.false (T.element_is c.loop-i.invariant.1 _ c.in-Number-stack-2.is) (zero_yes c.in-Number-stack-2.v (search rules) c.if-v-eq0-2.true) c.pass-i-then-v-eq0-2.ensures))
 
 pub loop-i-preserved-else-v-eq0-2 : goal.loop-i-preserved-else-v-eq0-2
-loop-i-preserved-else-v-eq0-2 c = (_, T.kept c.loop-i.invariant.1 (G.then_gone c.loop-i.invariant.1.going c.loop-i-test.true (rw c.in-Then.is at c.item_at.ensures).0 c.if-depth-lt1-4.false (T.element_is c.loop-i.invariant.1 _ c.in-Number-operand-5.is) (zero_no c.in-Number-operand-5.v c.if-v-eq0-2.false)))
+loop-i-preserved-else-v-eq0-2 c = (_, T.kept c.loop-i.invariant.1 (G.then_gone c.loop-i.invariant.1.going c.loop-i-test.true (rw c.in-Then.is at c.item_at.ensures).0 c.if-depth-lt1-4.false (T.element_is c.loop-i.invariant.1 _ c.in-Number-stack-2.is) (zero_no c.in-Number-stack-2.v c.if-v-eq0-2.false)))
 
-pub shape_of-out-in-Text-operand-5 : goal.shape_of-out-in-Text-operand-5
-shape_of-out-in-Text-operand-5 c = c.loop-i.invariant.1.going.same
-
-pub returns-in-Text-operand-5 : goal.returns-in-Text-operand-5
-returns-in-Text-operand-5 c =
-    let y : run c.args.s.now (values_of c.args.texts.now c.args.arguments) c.args.lasting.now ≡ failed 21 c.loop-i.i = G.then_other c.loop-i.invariant.1.going c.loop-i-test.true (rw c.in-Then.is at c.item_at.ensures).0 c.if-depth-lt1-4.false (ap is_text (T.element_is c.loop-i.invariant.1 _ c.in-Text-operand-5.is)) in
+pub returns-in_default-stack-4 : goal.returns-in_default-stack-4
+returns-in_default-stack-4 c =
+    let y : run c.args.s.now (values_of c.args.texts.now c.args.arguments) c.args.lasting.now ≡ failed 21 c.loop-i.i = G.then_other c.loop-i.invariant.1.going c.loop-i-test.true (rw c.in-Then.is at c.item_at.ensures).0 c.if-depth-lt1-4.false (ap is_text (T.element_is c.loop-i.invariant.1 _ c.in_default-stack-4.is)) in
     rw y (record { answer = refl; output = tt; within = λ _ _. c.loop-i-test.true })
-
-pub shape_of-out-then-depth-pops : goal.shape_of-out-then-depth-pops
-shape_of-out-then-depth-pops c = c.loop-i.invariant.1.going.same
 
 pub returns-then-depth-pops : goal.returns-then-depth-pops
 returns-then-depth-pops c =
     let y : run c.args.s.now (values_of c.args.texts.now c.args.arguments) c.args.lasting.now ≡ failed 15 c.loop-i.i = G.going_empty c.loop-i.invariant.1.going _ (rw c.in-Other.is at c.item_at.ensures).0 c.loop-i-test.true (omega (arith, c.arity-pops.ensures, c.if-depth-pops.true)) in
     rw y (record { answer = refl; output = tt; within = λ _ _. c.loop-i-test.true })
 
-pub overflow_sub-e-then-pops-gt0 : goal.overflow_sub-e-then-pops-gt0
-overflow_sub-e-then-pops-gt0 c = omega (arith, c.if-depth-pops.false, c.if-pops-gt0.true)
-
-pub offset_bounds-stack-depth-then-pops-gt0 : goal.offset_bounds-stack-depth-then-pops-gt0
-offset_bounds-stack-depth-then-pops-gt0 c = omega (arith, c.loop-i.invariant.1.going.depth)
-
-pub bounds-stack-depth-then-pops-gt0 : goal.bounds-stack-depth-then-pops-gt0
-bounds-stack-depth-then-pops-gt0 c = omega (arith, c.loop-i.invariant.1.going.depth, c.loop-i.invariant.1.places, c.if-depth-pops.false, c.if-pops-gt0.true)
-
-pub shape_of-out-in-Text-operand-6 : goal.shape_of-out-in-Text-operand-6
-shape_of-out-in-Text-operand-6 c = c.loop-i.invariant.1.going.same
-
-pub returns-in-Text-operand-6 : goal.returns-in-Text-operand-6
-returns-in-Text-operand-6 c =
-    let y : run c.args.s.now (values_of c.args.texts.now c.args.arguments) c.args.lasting.now ≡ failed 21 c.loop-i.i = G.going_other c.loop-i.invariant.1.going _ (rw c.in-Other.is at c.item_at.ensures).0 c.loop-i-test.true (omega (arith, c.arity-pops.ensures, c.if-depth-pops.false)) (G.simple_top _ _ _ (rw c.in-Other.is at c.item_at.ensures).1 (omega (arith, c.arity-pops.ensures, c.if-depth-pops.false)) (omega (arith, c.arity-pops.ensures, c.if-pops-gt0.true)) (ap is_text (T.element_is c.loop-i.invariant.1 _ c.in-Text-operand-6.is))) in
+pub returns-in_default-stack-5 : goal.returns-in_default-stack-5
+returns-in_default-stack-5 c =
+    let y : run c.args.s.now (values_of c.args.texts.now c.args.arguments) c.args.lasting.now ≡ failed 21 c.loop-i.i = G.going_other c.loop-i.invariant.1.going _ (rw c.in-Other.is at c.item_at.ensures).0 c.loop-i-test.true (omega (arith, c.arity-pops.ensures, c.if-depth-pops.false)) (G.simple_top _ _ _ (rw c.in-Other.is at c.item_at.ensures).1 (omega (arith, c.arity-pops.ensures, c.if-depth-pops.false)) (omega (arith, c.arity-pops.ensures, c.if-pops-gt0.true)) (ap is_text (T.element_is c.loop-i.invariant.1 _ c.in_default-stack-5.is))) in
     rw y (record { answer = refl; output = tt; within = λ _ _. c.loop-i-test.true })
 
-pub overflow_sub-f : goal.overflow_sub-f
-overflow_sub-f c = omega (arith, c.if-depth-pops.false, c.if-pops-gt1.true)
-
-pub offset_bounds-stack-depth-then-pops-gt1 : goal.offset_bounds-stack-depth-then-pops-gt1
-offset_bounds-stack-depth-then-pops-gt1 c = omega (arith, c.loop-i.invariant.1.going.depth)
-
-pub bounds-stack-depth-then-pops-gt1 : goal.bounds-stack-depth-then-pops-gt1
-bounds-stack-depth-then-pops-gt1 c = omega (arith, c.loop-i.invariant.1.going.depth, c.loop-i.invariant.1.places, c.if-depth-pops.false, c.if-pops-gt1.true)
-
-pub shape_of-out-in-Text-left : goal.shape_of-out-in-Text-left
-shape_of-out-in-Text-left c = c.loop-i.invariant.1.going.same
-
-pub returns-in-Text-left : goal.returns-in-Text-left
-returns-in-Text-left c =
-    let y : run c.args.s.now (values_of c.args.texts.now c.args.arguments) c.args.lasting.now ≡ failed 21 c.loop-i.i = G.going_other c.loop-i.invariant.1.going _ (rw c.in-Other.is at c.item_at.ensures).0 c.loop-i-test.true (omega (arith, c.arity-pops.ensures, c.if-depth-pops.false)) (G.simple_below _ _ _ (rw c.in-Other.is at c.item_at.ensures).1 (omega (arith, c.arity-pops.ensures, c.if-depth-pops.false)) (omega (arith, c.arity-pops.ensures, c.if-pops-gt1.true)) (T.element_is c.loop-i.invariant.1 _ c.in-Number-operand-6.is) (ap is_text (T.element_is c.loop-i.invariant.1 _ c.in-Text-left.is))) in
+pub returns-in_default-stack-6 : goal.returns-in_default-stack-6
+returns-in_default-stack-6 c =
+    let y : run c.args.s.now (values_of c.args.texts.now c.args.arguments) c.args.lasting.now ≡ failed 21 c.loop-i.i = G.going_other c.loop-i.invariant.1.going _ (rw c.in-Other.is at c.item_at.ensures).0 c.loop-i-test.true (omega (arith, c.arity-pops.ensures, c.if-depth-pops.false)) (G.simple_below _ _ _ (rw c.in-Other.is at c.item_at.ensures).1 (omega (arith, c.arity-pops.ensures, c.if-depth-pops.false)) (omega (arith, c.arity-pops.ensures, c.if-pops-gt1.true)) (T.element_is c.loop-i.invariant.1 _ c.in-Number-stack-3.is) (ap is_text (T.element_is c.loop-i.invariant.1 _ c.in_default-stack-6.is))) in
     rw y (record { answer = refl; output = tt; within = λ _ _. c.loop-i-test.true })
 
 pub take-requires : goal.take-requires
@@ -444,22 +237,10 @@ pub loop-i-preserved-in-Go : goal.loop-i-preserved-in-Go
 loop-i-preserved-in-Go c =
     (_, T.kept c.loop-i.invariant.1 (G.step_gone c.loop-i.invariant.1.going _ (rw c.in-Other.is at c.item_at.ensures).0 c.loop-i-test.true (popped (goal.at.loop-i-preserved-in-Go c).After-take (rw c.in-Other.is at c.item_at.ensures).1) (rw c.in-Other.is at c.item_at.ensures).1 c.take.ensures c.in-Go.is (G.value_of c.if-pops-gt0.b-bits)))
 
-pub shape_of-out-then-depth-ge-STACK_MOST-4 : goal.shape_of-out-then-depth-ge-STACK_MOST-4
-shape_of-out-then-depth-ge-STACK_MOST-4 c = c.take.auto.out ∙ c.loop-i.invariant.1.going.same
-
 pub returns-then-depth-ge-STACK_MOST-4 : goal.returns-then-depth-ge-STACK_MOST-4
 returns-then-depth-ge-STACK_MOST-4 c =
     let y : run c.args.s.now (values_of c.args.texts.now c.args.arguments) c.args.lasting.now ≡ failed 16 c.loop-i.i = G.step_full c.loop-i.invariant.1.going _ (rw c.in-Other.is at c.item_at.ensures).0 c.loop-i-test.true (popped (goal.at.returns-then-depth-ge-STACK_MOST-4 c).After-take (rw c.in-Other.is at c.item_at.ensures).1) (rw c.in-Other.is at c.item_at.ensures).1 c.take.ensures c.in-Push.is c.if-depth-ge-STACK_MOST-4.true in
     rw y (record { answer = refl; output = tt; within = λ _ _. c.loop-i-test.true })
-
-pub offset_bounds-stack-depth-in-Push : goal.offset_bounds-stack-depth-in-Push
-offset_bounds-stack-depth-in-Push c = omega (arith, c.if-depth-ge-STACK_MOST-4.false)
-
-pub bounds-stack-depth-in-Push : goal.bounds-stack-depth-in-Push
-bounds-stack-depth-in-Push c = omega (arith, c.loop-i.invariant.1.places, c.if-depth-ge-STACK_MOST-4.false)
-
-pub overflow_add-depth-in-Push : goal.overflow_add-depth-in-Push
-overflow_add-depth-in-Push c = omega (arith, c.if-depth-ge-STACK_MOST-4.false)
 
 pub loop-i-smaller : goal.loop-i-smaller
 loop-i-smaller c = omega (arith, c.loop-i-test.true, G.going_leads c.loop-i.invariant.1.going _ (rw c.in-Other.is at c.item_at.ensures).0 c.loop-i-test.true)
@@ -467,14 +248,10 @@ loop-i-smaller c = omega (arith, c.loop-i-test.true, G.going_leads c.loop-i.inva
 pub loop-i-preserved : goal.loop-i-preserved
 loop-i-preserved c =
     let g = T.pushed c.loop-i.invariant.1 (O.Number c.in-Push.v) c.if-pops-gt0.depth T.number_fit refl (G.step_pushed c.loop-i.invariant.1.going _ (rw c.in-Other.is at c.item_at.ensures).0 c.loop-i-test.true (popped (goal.at.loop-i-preserved c).After-take (rw c.in-Other.is at c.item_at.ensures).1) (rw c.in-Other.is at c.item_at.ensures).1 c.take.ensures c.in-Push.is c.if-depth-ge-STACK_MOST-4.false) in
-    let f = c.in-Push.known_told-in-Push-1-own.given in
     let e : to_z w32 (of_z w32 c.in-Push.v) ≡ c.in-Push.v = search rules in
     (c.loop-i.invariant.0, rw e g)
-
-pub shape_of-out : goal.shape_of-out
-shape_of-out c = c.loop-i.invariant.1.going.same
 
 pub returns : goal.returns
 returns c =
     let y : run c.args.s.now (values_of c.args.texts.now c.args.arguments) c.args.lasting.now ≡ finished (over (stack_of c.args.texts.now c.loop-i.stack) c.loop-i.depth (values_of c.args.texts.now c.loop-i.given) c.loop-i.locals c.loop-i.lasting) c.loop-i.invariant.0 c.loop-i.steps = G.going_done c.loop-i.invariant.1.going c.loop-i-test.false in
-    rw y (record { answer = (ap (λ (n : ℕ). Done n c.loop-i.steps) c.loop-i.invariant.1.going.counted, refl); output = c.loop-i.invariant.1.going.output; within = G.going_within c.loop-i.invariant.1.going })
+    rw y (record { answer = (ap (λ (n : ℕ). Ok (record { length = n; steps = c.loop-i.steps })) c.loop-i.invariant.1.going.counted, refl); output = c.loop-i.invariant.1.going.output; within = G.going_within c.loop-i.invariant.1.going })

@@ -12,13 +12,16 @@ pub form_at-requires : goal.form_at-requires
 form_at-requires c = rw c.name_end-end.ensures (run_le C.Name c.args.text.now c.args.at c.requires)
 
 pub returns-then-byte_at-ne44 : goal.returns-then-byte_at-ne44
-returns-then-byte_at-ne44 c = named_open c.args.text.now c.args.dropped c.args.at c.name_end-end.result c.name_end-end.ensures c.if-end-at.false _ _ (sym c.in-Right.is ∙ c.form_at.ensures) (λ e. c.if-byte_at-ne44.true (c.byte_at.ensures ∙ e))
+returns-then-byte_at-ne44 c = named_open c.args.text.now c.args.dropped c.args.at c.name_end-end.result c.name_end-end.ensures c.if-end-at.false _ _ (sym c.in_ok-formed.was ∙ c.form_at.ensures) (λ e. c.if-byte_at-ne44.true (c.byte_at.ensures ∙ e))
 
 pub overflow_add-result : goal.overflow_add-result
-overflow_add-result c = omega (arith, byte_within c.args.text.now c.in-Right.k 44 refl (sym c.byte_at.ensures ∙ c.if-byte_at-ne44.false))
+overflow_add-result c = omega (arith, byte_within c.args.text.now c.in_ok-formed.formed.next 44 refl (sym c.byte_at.ensures ∙ c.if-byte_at-ne44.false))
 
-pub returns-else-byte_at-ne44 : goal.returns-else-byte_at-ne44
-returns-else-byte_at-ne44 c = named_closed c.args.text.now c.args.dropped c.args.at c.name_end-end.result c.name_end-end.ensures c.if-end-at.false _ _ (sym c.in-Right.is ∙ c.form_at.ensures) (sym c.byte_at.ensures ∙ c.if-byte_at-ne44.false)
+pub returns : goal.returns
+returns c = named_closed c.args.text.now c.args.dropped c.args.at c.name_end-end.result c.name_end-end.ensures c.if-end-at.false _ _ (sym c.in_ok-formed.was ∙ c.form_at.ensures) (sym c.byte_at.ensures ∙ c.if-byte_at-ne44.false)
 
-pub returns-in-Malformed : goal.returns-in-Malformed
-returns-in-Malformed c = named_wrong c.args.text.now c.args.dropped c.args.at c.name_end-end.result c.name_end-end.ensures c.if-end-at.false (sym c.in-Malformed.is ∙ c.form_at.ensures)
+pub returns-in_err-formed : goal.returns-in_err-formed
+returns-in_err-formed c =
+    c.from_residual.ensures
+    ∙ named_wrong c.args.text.now c.args.dropped c.args.at c.name_end-end.result c.name_end-end.ensures
+    c.if-end-at.false (sym c.in_err-formed.was ∙ c.form_at.ensures)

@@ -1,5 +1,5 @@
 -- `file_tables::first_bad_boolean` meets its contract. The invariant: the first bad byte is the first from i on.
-use Prim.Native.Nat.{ℕ, ◌+◌, ◌-◌, ◌≤◌}
+use Prim.Native.Nat.{ℕ, ◌+◌, ◌-◌}
 use mathlib.Core.Bool.{Bool}
 use mathlib.Core.List.{List}
 use mathlib.Core.Path.{◌≡◌}
@@ -12,7 +12,4 @@ abbrev okAt : List ℕ → ℕ → ℕ → Bool
 okAt f at j = ok_boolean (get_or f (at + j) 0)
 
 abbrev pub invariant-loop-i : goal.invariant-loop-i
-invariant-loop-i l = (l.i ≤ l.n) × (scan (okAt l.file l.at) 0 l.n ≡ scan (okAt l.file l.at) l.i (l.n - l.i))
-
-abbrev pub decreases-loop-i : goal.decreases-loop-i
-decreases-loop-i l = l.n - l.i
+invariant-loop-i l = scan (okAt l.file l.at) 0 l.n ≡ scan (okAt l.file l.at) l.i (l.n - l.i)

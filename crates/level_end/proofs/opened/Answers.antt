@@ -2,8 +2,8 @@
 -- Assumes nothing.
 use mathlib.Core.Path.{ap}
 use native.Mathlib.Numerals.{add-one}
+use Rattle.std.specs.Prelude.{Some}
 use Rattle.expansion.specs.Machine.{passing}
-use Rattle.level_end.specs.declared.Turn.TheVariants.{Go}
 use Rattle.level_end.proofs.Laws.{else_level, else_inner, end_level, end_inner}
 use Rattle.level_end.proofs.opened.Goals as goal
 
@@ -13,7 +13,7 @@ returns-in-Plain c = rw c.in-Plain.is
 
 pub returns-in-If : goal.returns-in-If
 unfolding passing
-returns-in-If c = rw c.in-If.is (ap Go (add-one c.args.inner))
+returns-in-If c = rw c.in-If.is (ap Some (add-one c.args.inner))
 
 pub returns-in-Then : goal.returns-in-Then
 unfolding passing

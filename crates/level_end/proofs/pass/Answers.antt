@@ -18,7 +18,7 @@ opened-requires c =
     omega (arith, c.loop-n.invariant.few, open_inside c.loop-n.invariant.there, c.requires.0)
 
 pub enum_known-n : goal.enum_known-n
-enum_known-n c = c.in-Go.in-Go-own.keys1
+enum_known-n c = c.in-Some.in-Some-own.keys1
 
 pub loop-n-smaller : goal.loop-n-smaller
 loop-n-smaller c =
@@ -30,13 +30,13 @@ pub loop-n-preserved : goal.loop-n-preserved
 loop-n-preserved c =
     let a = c.loop-n.invariant in
     let k = c.class_at-c.ensures in
-    along_go a k c.opened.ensures _ c.in-Go.is
+    along_go a k c.opened.ensures _ c.in-Some.is
 
 pub enum_told-1 : goal.enum_told-1
-enum_told-1 c = c.in-Stop.in-Stop-own.keys2
+enum_told-1 c = c.in-None.in-None-own.keys2
 
-pub returns-in-Stop : goal.returns-in-Stop
-returns-in-Stop c =
+pub returns-in-None : goal.returns-in-None
+returns-in-None c =
     let a = c.loop-n.invariant in
     let k = c.class_at-c.ensures in
-    along_stop a k c.opened.ensures c.in-Stop.is
+    along_stop a k c.opened.ensures c.in-None.is

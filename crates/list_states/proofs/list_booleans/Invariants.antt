@@ -1,7 +1,5 @@
 -- `list_states::list_booleans` meets its contract. The loop's invariant: the places passed are filled.
 use mathlib.Core.Path.{◌≡◌}
-use Prim.Native.Nat.{◌≤◌, ◌-◌}
-use lib.ListN.{length}
 use Rattle.base.specs.Tabulate.{tabulate}
 use Rattle.base.specs.Overwrite.{put_at}
 use Rattle.edition.specs.Edition.{place}
@@ -10,7 +8,4 @@ use Rattle.list_states.specs.Listing.{kind_given}
 use Rattle.list_states.proofs.list_booleans.Given as goal
 
 abbrev pub invariant-loop-i : goal.invariant-loop-i
-invariant-loop-i l = (l.i ≤ l.edition.booleans) × (length l.kinds ≡ length l.initial.kinds) × (l.kinds ≡ put_at l.initial.kinds 0 (tabulate (λ j. kind_given (asking_boolean l.edition l.file (place j))) l.i))
-
-abbrev pub decreases-loop-i : goal.decreases-loop-i
-decreases-loop-i l = l.edition.booleans - l.i
+invariant-loop-i l = l.kinds ≡ put_at l.initial.kinds 0 (tabulate (λ j. kind_given (asking_boolean l.edition l.file (place j))) l.i)

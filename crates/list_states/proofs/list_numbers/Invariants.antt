@@ -1,7 +1,5 @@
 -- `list_states::list_numbers` meets its contract. The loop's invariant: the places passed are filled.
 use mathlib.Core.Path.{◌≡◌}
-use Prim.Native.Nat.{◌≤◌, ◌-◌}
-use lib.ListN.{length}
 use Rattle.base.specs.Tabulate.{tabulate}
 use Rattle.base.specs.Overwrite.{put_at}
 use Rattle.edition.specs.Edition.{place}
@@ -10,7 +8,8 @@ use Rattle.list_states.specs.Listing.{kind_given, value_given}
 use Rattle.list_states.proofs.list_numbers.Given as goal
 
 abbrev pub invariant-loop-i : goal.invariant-loop-i
-invariant-loop-i l = (l.i ≤ l.edition.numbers) × (length l.kinds ≡ length l.initial.kinds) × (length l.values ≡ length l.initial.values) × (l.kinds ≡ put_at l.initial.kinds 0 (tabulate (λ j. kind_given (asking_number l.edition l.file (place j))) l.i)) × (l.values ≡ put_at l.initial.values 0 (tabulate (λ j. value_given (asking_number l.edition l.file (place j))) l.i))
-
-abbrev pub decreases-loop-i : goal.decreases-loop-i
-decreases-loop-i l = l.edition.numbers - l.i
+invariant-loop-i l =
+    record {
+      kinds : l.kinds ≡ put_at l.initial.kinds 0 (tabulate (λ j. kind_given (asking_number l.edition l.file (place j))) l.i);
+      values : l.values ≡ put_at l.initial.values 0 (tabulate (λ j. value_given (asking_number l.edition l.file (place j))) l.i);
+    }

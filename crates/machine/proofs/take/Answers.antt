@@ -12,33 +12,18 @@ use Rattle.print.specs.Emit.{emitted}
 use Rattle.expansion.specs.Machine.{effect, applied, truth, inverted, stored}
 use Rattle.machine.specs.declared.Step.TheVariants.{Push}
 use Rattle.machine.specs.Steps.{step_of, machine_after}
-use Rattle.machine.proofs.Laws.{emitted_nothing, no_more}
+use Rattle.machine.proofs.Laws.{emitted_nothing, others_go}
 use Rattle.machine.proofs.take.Goals as goal
 
 pub returns-in-Byte : goal.returns-in-Byte
 unfolding effect step_of machine_after
 returns-in-Byte c st x = rw c.in-Byte.is (record { step = refl; after = refl; output = c.put_byte.ensures })
 
-pub returns-in-Argument : goal.returns-in-Argument
-returns-in-Argument c st x = absurd (rw c.in-Argument.is at c.requires.1)
-
-pub returns-in-Number : goal.returns-in-Number
-returns-in-Number c st x = absurd (rw c.in-Number.is at c.requires.1)
-
 pub returns-in-Character : goal.returns-in-Character
 unfolding effect step_of machine_after
 returns-in-Character c st x =
     let e : c.byte_of.result ≡ character c.args.b = c.byte_of.ensures ∙ ap character (to_z-of_z c.ranges.b) in
     rw c.in-Character.is (record { step = refl; after = refl; output = c.put_byte-in-Character.ensures ∙ ap (λ (x : ℕ). emitted c.args.out.now c.args.written (x ∷ [])) e })
-
-pub returns-in-Text : goal.returns-in-Text
-returns-in-Text c st x = absurd (rw c.in-Text.is at c.requires.1)
-
-pub returns-in-Length : goal.returns-in-Length
-returns-in-Length c st x = absurd (rw c.in-Length.is at c.requires.1)
-
-pub returns-in-Constant : goal.returns-in-Constant
-returns-in-Constant c st x = absurd (rw c.in-Constant.is at c.requires.1)
 
 pub returns-in-Store : goal.returns-in-Store
 unfolding effect step_of machine_after
@@ -65,23 +50,7 @@ unfolding effect step_of machine_after
 returns-in-Invert c st x =
     rw c.in-Invert.is (record { step = ap Push (called inverted c.ranges.b c.inverted.type_inv c.inverted.ensures); after = refl; output = emitted_nothing _ _ })
 
-pub returns-in-Increment : goal.returns-in-Increment
-returns-in-Increment c st x = absurd (rw c.in-Increment.is at c.requires.1)
-
-pub returns-in-If : goal.returns-in-If
-unfolding effect step_of machine_after
-returns-in-If c st x = rw c.in-If.is (record { step = no_more _; after = refl; output = emitted_nothing _ _ })
-
-pub returns-in-Then : goal.returns-in-Then
-returns-in-Then c st x = absurd (rw c.in-Then.is at c.requires.1)
-
-pub returns-in-Else : goal.returns-in-Else
-returns-in-Else c st x = absurd (rw c.in-Else.is at c.requires.1)
-
-pub returns-in-End : goal.returns-in-End
-unfolding effect step_of machine_after
-returns-in-End c st x = rw c.in-End.is (record { step = no_more _; after = refl; output = emitted_nothing _ _ })
-
-pub returns-in-Wrong : goal.returns-in-Wrong
-unfolding effect step_of machine_after
-returns-in-Wrong c st x = rw c.in-Wrong.is (record { step = no_more _; after = refl; output = emitted_nothing _ _ })
+pub returns-in_default : goal.returns-in_default
+returns-in_default c st x =
+    let n = c.in_default in
+    others_go _ _ _ _ _ _ c.requires.1 n.not-Byte n.not-Character n.not-Store n.not-Load n.not-Binary n.not-Not n.not-Invert

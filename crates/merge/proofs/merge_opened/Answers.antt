@@ -1,7 +1,8 @@
 -- `merge::merge_opened` meets its contract: by what filling the strings answers.
 use mathlib.Core.Path.{refl, subst}
 use Rattle.merge_states.specs.Filled.{StringsMeasured}
-use Rattle.merge_states.specs.declared.TableSize.{TableSize}
+use Prim.Native.Nat.{ℕ}
+use Rattle.std.specs.Prelude.{Option}
 use Rattle.merge_states.proofs.Laws.{strings_given, merge_large}
 use Rattle.merge.proofs.merge_opened.Goals as goal
 
@@ -11,8 +12,8 @@ fill_strings-requires c = (c.requires, strings_given c.requires.first _ _ _ refl
 pub merge_filled-requires : goal.merge_filled-requires
 merge_filled-requires c =
     let o = c.requires in
-    (o, (subst (λ (r : TableSize). StringsMeasured c.args.edition c.args.first.now c.args.second.now c.fill_strings.new.kinds c.fill_strings.new.starts c.fill_strings.new.lengths r) c.in-Bytes.is c.fill_strings.ensures, strings_given c.requires.first c.fill_strings.new.kinds c.fill_strings.new.starts c.fill_strings.new.lengths c.fill_strings.auto.kinds c.fill_strings.auto.starts c.fill_strings.auto.lengths))
+    (o, (subst (λ (r : Option ℕ). StringsMeasured c.args.both.now.edition c.args.both.now.first.now c.args.both.now.second.now c.fill_strings.new.kinds c.fill_strings.new.starts c.fill_strings.new.lengths r) c.in-Some.is c.fill_strings.ensures, strings_given c.requires.first c.fill_strings.new.kinds c.fill_strings.new.starts c.fill_strings.new.lengths c.fill_strings.auto.kinds c.fill_strings.auto.starts c.fill_strings.auto.lengths))
 
-pub returns-in-TooLarge : goal.returns-in-TooLarge
-returns-in-TooLarge c =
-    merge_large c.args.edition c.args.first.now c.args.second.now c.args.buffer.now c.requires (subst (λ (r : TableSize). StringsMeasured c.args.edition c.args.first.now c.args.second.now c.fill_strings.new.kinds c.fill_strings.new.starts c.fill_strings.new.lengths r) c.in-TooLarge.is c.fill_strings.ensures)
+pub returns-in-None : goal.returns-in-None
+returns-in-None c =
+    merge_large c.args.both.now.edition c.args.both.now.first.now c.args.both.now.second.now c.args.buffer.now c.requires (subst (λ (r : Option ℕ). StringsMeasured c.args.both.now.edition c.args.both.now.first.now c.args.both.now.second.now c.fill_strings.new.kinds c.fill_strings.new.starts c.fill_strings.new.lengths r) c.in-None.is c.fill_strings.ensures)

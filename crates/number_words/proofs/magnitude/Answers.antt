@@ -1,17 +1,18 @@
 -- `number_words::magnitude` meets its contract: a digit a turn.
 -- Assumes nothing.
-use mathlib.Core.Path.{◌∙◌}
-use Prim.Native.Nat.{◌-◌}
-use native.Mathlib.Omega.{arith}
+use mathlib.Core.Path.{sym, ◌∙◌}
 use borrow.Author.Rules.{rules}
-use Rattle.number_words.proofs.Laws.{magnitude_start, magnitude_next, magnitude_end}
+use native.Mathlib.Omega.{arith}
+use Rattle.number_words.proofs.Laws.{magnitude_start, magnitude_none, magnitude_next}
 use Rattle.number_words.proofs.magnitude.Goals as goal
 
-pub loop-i-init : goal.loop-i-init
-loop-i-init c = (search rules, magnitude_start c.args.digits.now)
+pub loop-c-init : goal.loop-c-init
+loop-c-init c = (magnitude_start c.args.digits.now, omega arith)
 
-pub loop-i-preserved : goal.loop-i-preserved
-loop-i-preserved c = (search rules, c.with_digit-n.ensures ∙ magnitude_next c.args.digits.now c.loop-i.i c.loop-i.n c.loop-i-test.true c.loop-i.invariant.1)
+pub returns-in_err-n : goal.returns-in_err-n
+returns-in_err-n c =
+    c.from_residual.ensures ∙ magnitude_none c.args.digits.now c.loop-c.c-index c.loop-c.n (search rules) c.loop-c.invariant.0 (sym c.in_err-n.was ∙ c.with_digit.ensures.value)
 
-pub returns : goal.returns
-returns c = magnitude_end c.args.digits.now c.loop-i.i c.loop-i.n (omega arith) c.loop-i.invariant.1
+pub loop-c-preserved : goal.loop-c-preserved
+loop-c-preserved c =
+    (magnitude_next c.args.digits.now c.loop-c.c-index c.loop-c.n c.in_ok-n.n (search rules) c.loop-c.invariant.0 c.in_ok-n.ensures.value, c.in_ok-n.ensures.few)

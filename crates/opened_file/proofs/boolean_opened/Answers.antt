@@ -1,7 +1,8 @@
 -- `opened_file::boolean_opened` meets its contract: a place beyond the edition, past the table, and in it.
-use mathlib.Core.Path.{◌∙◌}
+use mathlib.Core.Path.{ap, ◌∙◌}
 use native.Mathlib.Omega.{arith}
 use borrow.Author.Tests.{le-ltb}
+use Rattle.base.specs.Answer.{gives}
 use Rattle.file_tables.proofs.Laws.{at_booleans, in_booleans_lem}
 use Rattle.opened_file.proofs.Laws.{asking_unknown, framed, asked_boolean_past, asked_boolean}
 use Rattle.opened_file.proofs.boolean_opened.Goals as goal
@@ -30,4 +31,4 @@ bounds-file-t c =
     omega (arith, c.if-t-place.false)
 
 pub returns : goal.returns
-returns c = c.boolean_of.ensures ∙ asked_boolean c.requires c.args.place c.if-edition-place.false c.if-t-place.false
+returns c = ap gives c.boolean_of.ensures ∙ asked_boolean c.requires c.args.place c.if-edition-place.false c.if-t-place.false

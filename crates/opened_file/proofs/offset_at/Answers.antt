@@ -2,7 +2,7 @@
 use mathlib.Core.Path.{sym, ap, ◌∙◌}
 use native.Mathlib.Omega.{arith}
 use Rattle.file_tables.proofs.Laws.{at_strings, in_strings_lem}
-use Rattle.opened_file.specs.Opened.{says_slot}
+use Rattle.entry.specs.Says.{state_meant}
 use Rattle.opened_file.proofs.Laws.{framed, opened_offset}
 use Rattle.opened_file.proofs.offset_at.Goals as goal
 
@@ -15,10 +15,10 @@ slot_at-requires c =
     omega arith
 
 pub returns-in-Absent : goal.returns-in-Absent
-returns-in-Absent c = opened_offset c.requires c.args.place _ (ap says_slot (sym c.in-Absent.is) ∙ c.slot_at.ensures.0)
+returns-in-Absent c = opened_offset c.requires c.args.place _ (ap state_meant (sym c.in-Absent.is) ∙ c.slot_at.ensures.0)
 
 pub returns-in-Cancelled : goal.returns-in-Cancelled
-returns-in-Cancelled c = opened_offset c.requires c.args.place _ (ap says_slot (sym c.in-Cancelled.is) ∙ c.slot_at.ensures.0)
+returns-in-Cancelled c = opened_offset c.requires c.args.place _ (ap state_meant (sym c.in-Cancelled.is) ∙ c.slot_at.ensures.0)
 
-pub returns-in-Code : goal.returns-in-Code
-returns-in-Code c = opened_offset c.requires c.args.place _ (ap says_slot (sym c.in-Code.is) ∙ c.slot_at.ensures.0)
+pub returns-in-Present : goal.returns-in-Present
+returns-in-Present c = opened_offset c.requires c.args.place _ (ap state_meant (sym c.in-Present.is) ∙ c.slot_at.ensures.0)

@@ -1,11 +1,9 @@
 -- `opened_file::string_if_opened` meets its contract: by what opening answered.
-use mathlib.Core.Path.{sym, ap, ◌∙◌}
-use Rattle.entry.specs.Says.{says_opened}
-use Rattle.opened_file.proofs.Laws.{asking_unopened}
+use Rattle.opened_file.proofs.Laws.{opened_ok, opened_err}
 use Rattle.opened_file.proofs.string_if_opened.Goals as goal
 
 pub string_opened-requires : goal.string_opened-requires
-string_opened-requires c = record { beyond = c.in-Entry.field-1; given = ap says_opened (sym c.in-Entry.is) ∙ c.requires }
+string_opened-requires c = opened_ok _ _ c.args.o c.requires _ c.in_ok-opened.ensures.value
 
-pub returns-in-Refused : goal.returns-in-Refused
-returns-in-Refused c = asking_unopened _ _ _ _ _ _ (ap says_opened (sym c.in-Refused.is) ∙ c.requires)
+pub returns-in_err-opened : goal.returns-in_err-opened
+returns-in_err-opened c = rw c.from_residual.ensures (opened_err _ _ c.args.o c.requires _ _ c.in_err-opened.ensures.value)

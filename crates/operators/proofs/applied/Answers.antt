@@ -2,11 +2,11 @@
 -- Assumes nothing.
 use mir.Facts.{to_z-of_z}
 use Rattle.signed.specs.Signed.{add, subtract, multiply, divide, remainder}
-use Rattle.signed.proofs.Laws.{called_two}
-use Rattle.expansion.specs.declared.Operator.TheVariants.{BitAnd, BitOr, BitXor, And, Or}
+use Rattle.signed.proofs.Laws.{called_two, zero_yes, zero_no, zero_bits}
 use Rattle.expansion.specs.Machine.{applied}
-use Rattle.operators.proofs.Laws.{equal_yes, equal_no}
+use Rattle.operators.proofs.Laws.{equal_bits, truth_of}
 use Rattle.operators.proofs.applied.Goals as goal
+use Rattle.operators.proofs.applied.Goals.{then-a-ne0, else-a-ne0, then-a-ne0-2, else-a-ne0-2}
 
 pub returns-in-Add : goal.returns-in-Add
 unfolding applied
@@ -34,51 +34,48 @@ returns-in-Remainder c =
     rw c.in-Remainder.is (called_two remainder c.ranges.a c.ranges.b c.remainder_of.type_inv c.remainder_of.ensures)
 
 pub returns-in-BitAnd : goal.returns-in-BitAnd
-returns-in-BitAnd c =
-    rw c.in-BitAnd.is (called_two (applied BitAnd) c.ranges.a c.ranges.b c.bit_and.type_inv c.bit_and.ensures)
+unfolding applied
+returns-in-BitAnd c = rw c.in-BitAnd.is
 
 pub returns-in-BitOr : goal.returns-in-BitOr
-returns-in-BitOr c =
-    rw c.in-BitOr.is (called_two (applied BitOr) c.ranges.a c.ranges.b c.bit_or.type_inv c.bit_or.ensures)
+unfolding applied
+returns-in-BitOr c = rw c.in-BitOr.is
 
 pub returns-in-BitXor : goal.returns-in-BitXor
-returns-in-BitXor c =
-    rw c.in-BitXor.is (called_two (applied BitXor) c.ranges.a c.ranges.b c.bit_xor.type_inv c.bit_xor.ensures)
-
-pub returns-then-a-b : goal.returns-then-a-b
 unfolding applied
-returns-then-a-b c =
-    rw (c.in-Equal.is, equal_yes _ _ c.ranges.a c.ranges.b c.if-a-b.true)
+returns-in-BitXor c = rw c.in-BitXor.is
 
-pub returns-else-a-b : goal.returns-else-a-b
+pub returns-in-Equal : goal.returns-in-Equal
 unfolding applied
-returns-else-a-b c =
-    rw (c.in-Equal.is, equal_no c.args.a c.args.b c.if-a-b.false)
+returns-in-Equal c =
+    rw c.in-Equal.is (truth_of _ c.from.ensures (equal_bits c.args.a c.args.b c.ranges.a c.ranges.b))
 
-pub returns-then-a-b-2 : goal.returns-then-a-b-2
+pub returns-in-Greater : goal.returns-in-Greater
 unfolding applied
-returns-then-a-b-2 c =
-    rw (c.in-Greater.is, rw (to_z-of_z c.ranges.a, to_z-of_z c.ranges.b) at c.if-a-b-2.true)
+returns-in-Greater c =
+    rw c.in-Greater.is (truth_of _ c.from-in-Greater.ensures (rw (to_z-of_z c.ranges.a, to_z-of_z c.ranges.b)))
 
-pub returns-else-a-b-2 : goal.returns-else-a-b-2
+pub returns-in-Less : goal.returns-in-Less
 unfolding applied
-returns-else-a-b-2 c =
-    rw (c.in-Greater.is, rw (to_z-of_z c.ranges.a, to_z-of_z c.ranges.b) at c.if-a-b-2.false)
+returns-in-Less c =
+    rw c.in-Less.is (truth_of _ c.from-in-Less.ensures (rw (to_z-of_z c.ranges.a, to_z-of_z c.ranges.b)))
 
-pub returns-then-a-b-3 : goal.returns-then-a-b-3
+pub returns-after-a-ne0 : goal.returns-after-a-ne0
 unfolding applied
-returns-then-a-b-3 c =
-    rw (c.in-Less.is, rw (to_z-of_z c.ranges.a, to_z-of_z c.ranges.b) at c.if-a-b-3.true)
+returns-after-a-ne0 c =
+    rw c.in-And.is
+    (truth_of _ c.from-in-And.ensures
+    (elim c.if-a-ne0.branch [
+      | then-a-ne0 w ↦ rw (w.from-is, zero_bits c.args.b c.ranges.b, zero_no c.args.a w.if-a-ne0.true)
+      | else-a-ne0 w ↦ rw (w.from-is, zero_bits c.args.a c.ranges.a, zero_yes c.args.a c.ranges.a w.if-a-ne0.false)
+    ]))
 
-pub returns-else-a-b-3 : goal.returns-else-a-b-3
+pub returns-after-a-ne0-2 : goal.returns-after-a-ne0-2
 unfolding applied
-returns-else-a-b-3 c =
-    rw (c.in-Less.is, rw (to_z-of_z c.ranges.a, to_z-of_z c.ranges.b) at c.if-a-b-3.false)
-
-pub returns-in-And : goal.returns-in-And
-returns-in-And c =
-    rw c.in-And.is (called_two (applied And) c.ranges.a c.ranges.b c.both.type_inv c.both.ensures)
-
-pub returns-in-Or : goal.returns-in-Or
-returns-in-Or c =
-    rw c.in-Or.is (called_two (applied Or) c.ranges.a c.ranges.b c.either.type_inv c.either.ensures)
+returns-after-a-ne0-2 c =
+    rw c.in-Or.is
+    (truth_of _ c.from-in-Or.ensures
+    (elim c.if-a-ne0-2.branch [
+      | then-a-ne0-2 w ↦ rw (w.from-is, zero_bits c.args.a c.ranges.a, zero_no c.args.a w.if-a-ne0-2.true)
+      | else-a-ne0-2 w ↦ rw (w.from-is, zero_bits c.args.b c.ranges.b, zero_yes c.args.a c.ranges.a w.if-a-ne0-2.false)
+    ]))

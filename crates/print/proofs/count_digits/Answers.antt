@@ -8,7 +8,7 @@ use native.Mathlib.Omega.{arith}
 use lib.ListN.{length}
 use Rattle.expansion.specs.Print.{digits}
 use Rattle.expansion_laws.specs.DigitCount.{power_one, digits_some, digits_above, digits_below, digits_word}
-use Rattle.signed.proofs.Laws.{below}
+use Rattle.print.proofs.NumeralLaws.{product_below}
 use Rattle.print.proofs.count_digits.Goals as goal
 
 pub loop-limit-init : goal.loop-limit-init
@@ -20,7 +20,7 @@ loop-limit-init c = (
 )
 
 pub overflow_mul-limit : goal.overflow_mul-limit
-overflow_mul-limit c = record { fits = below 32 (omega arith) (omega arith) }
+overflow_mul-limit c = record { fits = product_below 32 (omega arith) (omega arith) }
 
 pub overflow_add-count : goal.overflow_add-count
 overflow_add-count c =

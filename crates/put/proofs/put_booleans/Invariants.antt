@@ -2,7 +2,6 @@
 -- Assumes nothing.
 use mathlib.Core.Path.{◌≡◌}
 use mathlib.Core.List.{map}
-use Prim.Native.Nat.{◌-◌, ◌≤◌}
 use lib.ListN.{length}
 use Rattle.base.specs.Overwrite.{put_at}
 use Rattle.entry.specs.State.{boolean_code}
@@ -10,7 +9,4 @@ use Rattle.put.specs.Table.{booleans_of}
 use Rattle.put.proofs.put_booleans.Given as goal
 
 abbrev pub invariant-loop-i : goal.invariant-loop-i
-invariant-loop-i l = (l.i ≤ l.n) × (length l.b ≡ length l.initial.b) × (l.b ≡ put_at l.initial.b l.at (map boolean_code (booleans_of l.kinds l.i)))
-
-abbrev pub decreases-loop-i : goal.decreases-loop-i
-decreases-loop-i l = l.n - l.i
+invariant-loop-i l = (length l.b ≡ length l.initial.b) × (l.b ≡ put_at l.initial.b l.at (map boolean_code (booleans_of l.kinds l.i)))

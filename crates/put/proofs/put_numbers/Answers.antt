@@ -2,10 +2,9 @@
 -- Assumes nothing.
 use mathlib.Core.Path.{◌≡◌, refl, sym, ap, ◌∙◌}
 use mathlib.Core.List.{map}
-use Prim.Native.Nat.{ℕ, ◌-◌}
+use Prim.Native.Nat.{ℕ}
 use native.Mathlib.Omega.{arith}
 use lib.ListN.{get_or}
-use borrow.Author.Rules.{rules}
 use Rattle.base.specs.Tabulate.{tabulate}
 use Rattle.base.specs.Overwrite.{put_at}
 use Rattle.base.proofs.OverwriteLaws.{put_nil}
@@ -18,19 +17,16 @@ use Rattle.put.proofs.put_numbers.Goals as goal
 
 pub loop-i-init : goal.loop-i-init
 unfolding tabulate words
-loop-i-init c = (search rules, refl, sym (put_nil _ _))
-
-pub overflow_cast-values : goal.overflow_cast-values
-overflow_cast-values c = omega (arith, c.type_inv.kinds c.loop-i.i)
+loop-i-init c = (refl, sym (put_nil _ _))
 
 pub loop-i-preserved : goal.loop-i-preserved
 loop-i-preserved c =
-    (search rules, c.put_short.auto.b ∙ c.loop-i.invariant.1, c.put_short.ensures ∙ short_turn number_code (λ (j : ℕ). state_of (get_or c.args.kinds.now j 0) (get_or c.args.values.now j 0)) c.args.b.now c.loop-i.b c.args.at c.loop-i.i c.args.n c.slot_code-code.result c.requires.0 c.loop-i-test.true c.loop-i.invariant.2 c.slot_code-code.ensures)
+    (c.put_short.auto.b ∙ c.loop-i.invariant.0, c.put_short.ensures ∙ short_turn number_code (λ (j : ℕ). state_of (get_or c.args.numbers.now.kinds.now j 0) (get_or c.args.numbers.now.values.now j 0)) c.args.b.now c.loop-i.b c.args.at c.loop-i.i c.args.n c.slot_code-code.result c.requires.0 c.loop-i-test.true c.loop-i.invariant.1 c.slot_code-code.ensures)
 
 pub shape_of-b : goal.shape_of-b
-shape_of-b c = c.loop-i.invariant.1
+shape_of-b c = c.loop-i.invariant.0
 
 pub returns : goal.returns
 returns c =
-    let e : c.loop-i.i ≡ c.args.n = omega arith in
-    c.loop-i.invariant.2 ∙ ap (λ (k : ℕ). put_at c.args.b.now c.args.at (words number_width (map number_code (numbers_of c.args.kinds.now c.args.values.now k)))) e
+    let e : c.loop-i.i ≡ c.args.n = let h = c.loop-i.auto.i-end in let g = c.loop-i-test.false in omega arith in
+    c.loop-i.invariant.1 ∙ ap (λ (k : ℕ). put_at c.args.b.now c.args.at (words number_width (map number_code (numbers_of c.args.numbers.now.kinds.now c.args.numbers.now.values.now k)))) e

@@ -2,7 +2,6 @@
 -- Assumes nothing.
 use mathlib.Core.Path.{◌≡◌}
 use mathlib.Core.List.{map}
-use Prim.Native.Nat.{◌-◌, ◌≤◌}
 use lib.ListN.{length}
 use Rattle.base.specs.Overwrite.{put_at}
 use Rattle.word.specs.Word.{words}
@@ -12,7 +11,4 @@ use Rattle.put.specs.Table.{total, slots_of}
 use Rattle.put.proofs.put_slots.Given as goal
 
 abbrev pub invariant-loop-i : goal.invariant-loop-i
-invariant-loop-i l = (l.i ≤ l.n) × (length l.b ≡ length l.initial.b) × (l.next ≡ total l.kinds l.lengths l.i) × (l.b ≡ put_at l.initial.b l.at (words offset_width (map offset_code (slots_of l.kinds l.lengths l.i))))
-
-abbrev pub decreases-loop-i : goal.decreases-loop-i
-decreases-loop-i l = l.n - l.i
+invariant-loop-i l = (length l.b ≡ length l.initial.b) × (l.next ≡ total l.strings.kinds.now l.strings.lengths.now l.i) × (l.b ≡ put_at l.initial.b l.at (words offset_width (map offset_code (slots_of l.strings.kinds.now l.strings.lengths.now l.i))))

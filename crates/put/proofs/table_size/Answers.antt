@@ -1,16 +1,14 @@
 -- `put::table_size` meets its contract. The loop's invariant: the sum is that of the strings passed, which is at most that of all.
 -- Assumes nothing.
 use mathlib.Core.Path.{◌≡◌, refl, ap, ◌∙◌}
-use Prim.Native.Nat.{◌-◌}
 use native.Mathlib.Omega.{arith}
-use borrow.Author.Rules.{rules}
 use Rattle.put.specs.Table.{total}
 use Rattle.put.proofs.TableLaws.{total_more, total_below}
 use Rattle.put.proofs.table_size.Goals as goal
 
 pub loop-i-init : goal.loop-i-init
 unfolding total
-loop-i-init c = (search rules, refl)
+loop-i-init c = refl
 
 pub bytes_in_table-sum-requires : goal.bytes_in_table-sum-requires
 bytes_in_table-sum-requires c =
@@ -27,9 +25,9 @@ pub loop-i-preserved : goal.loop-i-preserved
 loop-i-preserved c =
     let q = c.bytes_in_table-sum.ensures in
     let m = total_more c.args.kinds.now c.args.lengths.now c.loop-i.i in
-    (search rules, omega arith)
+    omega arith
 
 pub returns : goal.returns
 returns c =
-    let e : c.loop-i.i ≡ c.args.n = omega arith in
-    c.loop-i.invariant.1 ∙ ap (total c.args.kinds.now c.args.lengths.now) e
+    let e : c.loop-i.i ≡ c.args.n = let h = c.loop-i.auto.i-end in let g = c.loop-i-test.false in omega arith in
+    c.loop-i.invariant ∙ ap (total c.args.kinds.now c.args.lengths.now) e

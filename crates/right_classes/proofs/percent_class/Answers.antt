@@ -59,8 +59,8 @@ width_end-requires c =
     let e = percent_byte _ _ refl 48 c.in-48.is in
     (true, right_as e c.requires)
 
-pub width_end-requires-in-49 : goal.width_end-requires-in-49
-width_end-requires-in-49 c =
+pub width_end-requires-in-49-to-57 : goal.width_end-requires-in-49-to-57
+width_end-requires-in-49-to-57 c =
     let e = digit_width _ _ (search rules) (omega arith) (omega arith) in
     (false, right_as e c.requires)
 
@@ -115,12 +115,12 @@ returns-in-48 c =
     c.classed-in-48.ensures
     ∙ width_plain _ _ true _ e c.requires c.width_end.ensures
 
-pub returns-in-49 : goal.returns-in-49
-returns-in-49 c =
+pub returns-in-49-to-57 : goal.returns-in-49-to-57
+returns-in-49-to-57 c =
     let e = digit_width _ _ (search rules) (omega arith) (omega arith) in
-    c.classed-in-49.ensures
+    c.classed-in-49-to-57.ensures
     ∙ width_plain _ _ false _ e c.requires
-    c.width_end-in-49.ensures
+    c.width_end-in-49-to-57.ensures
 
 pub returns-in_default : goal.returns-in_default
 returns-in_default c =

@@ -1,6 +1,5 @@
 -- `shown::put_octal` meets its contract: the bytes put are the definition's.
 -- Assumes nothing.
-use borrow.Author.Rules.{rules}
 use Rattle.shown.specs.Shown.{octal}
 use Rattle.shown.proofs.put_octal.Goals as goal
 

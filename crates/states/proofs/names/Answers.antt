@@ -1,11 +1,9 @@
 -- `states::names` meets its contract: by what opening answers.
-use mathlib.Core.Path.{sym, ap, ◌∙◌}
-use Rattle.entry.specs.Says.{says_opened}
-use Rattle.opened_file.proofs.Laws.{asking_unopened}
+use Rattle.opened_file.proofs.Laws.{opened_ok, opened_err}
 use Rattle.states.proofs.names.Goals as goal
 
 pub names_opened-requires : goal.names_opened-requires
-names_opened-requires c = record { beyond = c.in-Entry.field-1; given = ap says_opened (sym c.in-Entry.is) ∙ c.«open».ensures }
+names_opened-requires c = opened_ok _ _ _ c.«open».ensures _ c.in_ok-opened.ensures.value
 
-pub returns-in-Refused : goal.returns-in-Refused
-returns-in-Refused c = asking_unopened _ _ _ _ _ _ (ap says_opened (sym c.in-Refused.is) ∙ c.«open».ensures)
+pub returns-in_err-opened : goal.returns-in_err-opened
+returns-in_err-opened c = rw c.from_residual.ensures (opened_err _ _ _ c.«open».ensures _ _ c.in_err-opened.ensures.value)

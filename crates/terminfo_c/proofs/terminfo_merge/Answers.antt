@@ -2,7 +2,6 @@
 use mathlib.Core.Path.{ap, ◌∙◌}
 use Rattle.c_numbers.specs.Numbers.{merging_number}
 use Rattle.terminfo_c.proofs.Laws.{merged_within, merged_length}
-use borrow.Author.Rules.{rules}
 use Rattle.terminfo_c.proofs.terminfo_merge.Goals as goal
 
 pub merged_number-requires : goal.merged_number-requires
@@ -10,7 +9,8 @@ merged_number-requires c = merged_within _ _ _ _ c.merge-m.result c.merge-m.ensu
 
 pub returns : goal.returns
 returns c =
+    let r = rw c.edition_of.ensures at c.merge-m.ensures in
     record {
-      number = c.merged_number.ensures ∙ ap (merging_number (λ n. n)) c.merge-m.ensures.0 ∙ merged_length _;
-      buffer = c.merge-m.ensures.1;
+      number = c.merged_number.ensures ∙ ap (merging_number (λ n. n)) r.0 ∙ merged_length _;
+      buffer = r.1;
     }

@@ -3,7 +3,7 @@
 use mathlib.Core.Path.{◌≡◌, ap, ◌∙◌}
 use native.Mathlib.Omega.{arith}
 use Rattle.entry.specs.Layout.{size_of, table_at}
-use Rattle.entry.specs.Handed.{handed}
+use Rattle.entry.specs.Handed.{handed_by}
 use Rattle.write_laws.specs.File.{sizes_handed, head, slots}
 use Rattle.write_laws.proofs.FileLaws.{file_put}
 use Rattle.compile_laws.specs.Held.{text_string}
@@ -12,13 +12,13 @@ use Rattle.text_file.proofs.write.Goals as goal
 
 pub returns-then-names-gt-GIVEN_NAMES_MOST : goal.returns-then-names-gt-GIVEN_NAMES_MOST
 returns-then-names-gt-GIVEN_NAMES_MOST c =
-    let h = handed c.args.names.now c.args.boolean_kinds.now c.args.number_kinds.now c.args.number_values.now c.args.string_kinds.now c.args.string_starts.now c.args.string_lengths.now c.args.text.now in
+    let h = handed_by c.args.names.now c.args.states.now c.args.text.now in
     let t = c.if-names-gt-GIVEN_NAMES_MOST.true in
     refuse_total c.args.edition h c.requires.0 c.requires.1 c.args.buffer.now (omega arith)
 
 pub sizes-s-requires : goal.sizes-s-requires
 sizes-s-requires c =
-    let h = handed c.args.names.now c.args.boolean_kinds.now c.args.number_kinds.now c.args.number_values.now c.args.string_kinds.now c.args.string_starts.now c.args.string_lengths.now c.args.text.now in
+    let h = handed_by c.args.names.now c.args.states.now c.args.text.now in
     let t = c.if-names-gt-GIVEN_NAMES_MOST.false in
     let k = c.requires.1 in
     let m = size_small c.args.edition h c.requires.0 k (omega arith) in
@@ -26,7 +26,7 @@ sizes-s-requires c =
 
 pub file_size-size-requires : goal.file_size-size-requires
 file_size-size-requires c =
-    let h = handed c.args.names.now c.args.boolean_kinds.now c.args.number_kinds.now c.args.number_values.now c.args.string_kinds.now c.args.string_starts.now c.args.string_lengths.now c.args.text.now in
+    let h = handed_by c.args.names.now c.args.states.now c.args.text.now in
     let t = c.if-names-gt-GIVEN_NAMES_MOST.false in
     let m = size_small c.args.edition h c.requires.0 c.requires.1 (omega arith) in
     let q : size_of c.sizes-s.result ≡ size_of (sizes_handed c.args.edition h) = ap size_of c.sizes-s.ensures in
@@ -34,19 +34,19 @@ file_size-size-requires c =
 
 pub returns-then-size-gt-FILE_MOST : goal.returns-then-size-gt-FILE_MOST
 returns-then-size-gt-FILE_MOST c =
-    let h = handed c.args.names.now c.args.boolean_kinds.now c.args.number_kinds.now c.args.number_values.now c.args.string_kinds.now c.args.string_starts.now c.args.string_lengths.now c.args.text.now in
+    let h = handed_by c.args.names.now c.args.states.now c.args.text.now in
     let t = c.if-names-gt-GIVEN_NAMES_MOST.false in
     refuse_size c.args.edition h c.requires.0 c.requires.1 c.args.buffer.now (omega arith) c.file_size-size.result (c.file_size-size.ensures ∙ ap size_of c.sizes-s.ensures) c.if-size-gt-FILE_MOST.true
 
 pub returns-then-buffer-size : goal.returns-then-buffer-size
 returns-then-buffer-size c =
-    let h = handed c.args.names.now c.args.boolean_kinds.now c.args.number_kinds.now c.args.number_values.now c.args.string_kinds.now c.args.string_starts.now c.args.string_lengths.now c.args.text.now in
+    let h = handed_by c.args.names.now c.args.states.now c.args.text.now in
     let t = c.if-names-gt-GIVEN_NAMES_MOST.false in
     refuse_room c.args.edition h c.requires.0 c.requires.1 c.args.buffer.now (omega arith) c.file_size-size.result (c.file_size-size.ensures ∙ ap size_of c.sizes-s.ensures) c.if-size-gt-FILE_MOST.false c.if-buffer-size.true
 
 pub put_front-requires : goal.put_front-requires
 put_front-requires c =
-    let h = handed c.args.names.now c.args.boolean_kinds.now c.args.number_kinds.now c.args.number_values.now c.args.string_kinds.now c.args.string_starts.now c.args.string_lengths.now c.args.text.now in
+    let h = handed_by c.args.names.now c.args.states.now c.args.text.now in
     let q : c.file_size-size.result ≡ size_of (sizes_handed c.args.edition h) = c.file_size-size.ensures ∙ ap size_of c.sizes-s.ensures in
     let u = c.if-size-gt-FILE_MOST.false in
     let v = c.if-buffer-size.false in
@@ -54,14 +54,14 @@ put_front-requires c =
 
 pub table_at-requires : goal.table_at-requires
 table_at-requires c =
-    let h = handed c.args.names.now c.args.boolean_kinds.now c.args.number_kinds.now c.args.number_values.now c.args.string_kinds.now c.args.string_starts.now c.args.string_lengths.now c.args.text.now in
+    let h = handed_by c.args.names.now c.args.states.now c.args.text.now in
     let q = c.file_size-size.ensures in
     let u = c.if-size-gt-FILE_MOST.false in
     omega arith
 
 pub put_table-requires : goal.put_table-requires
 put_table-requires c =
-    let h = handed c.args.names.now c.args.boolean_kinds.now c.args.number_kinds.now c.args.number_values.now c.args.string_kinds.now c.args.string_starts.now c.args.string_lengths.now c.args.text.now in
+    let h = handed_by c.args.names.now c.args.states.now c.args.text.now in
     let q : c.file_size-size.result ≡ size_of (sizes_handed c.args.edition h) = c.file_size-size.ensures ∙ ap size_of c.sizes-s.ensures in
     let w : c.table_at.result ≡ table_at (sizes_handed c.args.edition h) = c.table_at.ensures ∙ ap table_at c.sizes-s.ensures in
     let v = c.if-buffer-size.false in
@@ -71,7 +71,7 @@ put_table-requires c =
 pub returns : goal.returns
 unfolding head slots
 returns c =
-    let h = handed c.args.names.now c.args.boolean_kinds.now c.args.number_kinds.now c.args.number_values.now c.args.string_kinds.now c.args.string_starts.now c.args.string_lengths.now c.args.text.now in
+    let h = handed_by c.args.names.now c.args.states.now c.args.text.now in
     let t = c.if-names-gt-GIVEN_NAMES_MOST.false in
     let q : c.file_size-size.result ≡ size_of (sizes_handed c.args.edition h) = c.file_size-size.ensures ∙ ap size_of c.sizes-s.ensures in
     let v = c.if-buffer-size.false in

@@ -1,4 +1,7 @@
-use mathlib.Core.Logic.{⊎_elim, inl, inr}
+use Rattle.std.proofs.lemmas.Bool.Decides.{nat_tests}
+use Rattle.std.proofs.lemmas.Grind.{common_steps}
+use native.Mathlib.Omega.{arith}
+use mathlib.Core.Logic.{⊎_elim}
 use borrow.Author.Tests.{ne_eqb}
 use Rattle.text_numbers.specs.Bases.{base_at}
 use Rattle.text_numbers.proofs.base_at.Goals as goal
@@ -9,8 +12,8 @@ returns-then-byte_at-ne48 c = rw (← c.byte_at.ensures, ne_eqb c.byte_at.result
 
 pub returns-in-120 : goal.returns-in-120
 unfolding base_at
-returns-in-120 c = rw (← c.byte_at.ensures, c.if-byte_at-ne48.false, ← c.byte_at-x.ensures) (⊎_elim (λ e. rw e) (λ e. rw e) c.in-120.is)
+returns-in-120 c = rw (← c.byte_at.ensures, c.if-byte_at-ne48.false, ← c.byte_at-2.ensures) (⊎_elim (λ e. rw e) (λ e. rw e) c.in-120.is)
 
 pub returns-in_default : goal.returns-in_default
 unfolding base_at
-returns-in_default c = rw (← c.byte_at.ensures, c.if-byte_at-ne48.false, ← c.byte_at-x.ensures, ne_eqb c.byte_at-x.result 120 (λ e. c.in_default.in_default-own.rest.1 (inr e)), ne_eqb c.byte_at-x.result 88 (λ e. c.in_default.in_default-own.rest.1 (inl e)))
+returns-in_default c = let e = c.byte_at-2.ensures in rw (← c.byte_at.ensures, c.if-byte_at-ne48.false, ← e) (grind (arith, nat_tests, common_steps))

@@ -19,12 +19,6 @@ overflow_add-v c = omega (arith, valued_fits c.args.base c.args.text.now c.args.
 pub returns-then-v-gt-NUMBER_MOST : goal.returns-then-v-gt-NUMBER_MOST
 returns-then-v-gt-NUMBER_MOST c = valued_large c.args.base c.args.text.now c.args.at c.args.end c.loop-i.i c.loop-i.v c.loop-i.invariant (c.loop-i.v * c.args.base + c.digit.result) c.loop-i-test.true (ap (λ (d : ℕ). c.loop-i.v * c.args.base + d) c.digit.ensures) c.requires.0.0 c.if-v-gt-NUMBER_MOST.true
 
-pub overflow_add-i : goal.overflow_add-i
-overflow_add-i c = omega arith
-
-pub loop-i-smaller : goal.loop-i-smaller
-loop-i-smaller c = omega arith
-
 pub loop-i-preserved : goal.loop-i-preserved
 loop-i-preserved c = valued_more c.args.base c.args.text.now c.args.at c.args.end c.loop-i.i c.loop-i.v c.loop-i.invariant (c.loop-i.v * c.args.base + c.digit.result) c.loop-i-test.true (ap (λ (d : ℕ). c.loop-i.v * c.args.base + d) c.digit.ensures) c.if-v-gt-NUMBER_MOST.false
 

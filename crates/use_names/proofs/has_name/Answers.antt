@@ -1,37 +1,28 @@
--- `use_names::has_name` meets its contract. The loop's invariant: the name is one of those from at on if it is one of
--- all.
+-- `use_names::has_name` meets its contract. The loop's invariant: the name is one of those left if it is one of all.
 -- Assumes nothing.
-use mathlib.Core.Path.{sym, ◌∙◌}
+use mathlib.Core.Path.{refl, sym, ◌∙◌}
 use native.Mathlib.Omega.{arith}
-use Rattle.use_names.proofs.NameLaws.{names_all, names_last, names_hit, names_pass}
+use Rattle.std.proofs.lemmas.Grind.{common_steps}
+use Rattle.text.specs.Building.{has_name}
+use Rattle.use_names.proofs.NameLaws.{left_last, left_hit, left_pass}
 use Rattle.use_names.proofs.has_name.Goals as goal
 
-pub loop-at-init : goal.loop-at-init
-loop-at-init c = names_all c.args.names.now c.args.name.now
+pub loop-bar-init : goal.loop-bar-init
+unfolding has_name
+loop-bar-init c = (omega arith, refl)
 
-pub bar_from-bar-requires : goal.bar_from-bar-requires
-bar_from-bar-requires c = c.loop-at.invariant.within
+pub returns-then-eq : goal.returns-then-eq
+returns-then-eq c =
+    sym (left_hit _ _ _ c.in-Some.ensures (sym c.eq.ensures ∙ c.if-eq.true)) ∙ c.loop-bar.invariant.1
 
-pub returns-then-names-bar : goal.returns-then-names-bar
-returns-then-names-bar c = names_last c.args.names.now c.args.name.now c.loop-at.at c.bar_from-bar.result c.loop-at.invariant c.bar_from-bar.ensures (omega arith)
+pub overflow_add-rest : goal.overflow_add-rest
+overflow_add-rest c = let b = c.in-Some.ensures.0 in omega arith
 
-pub slice_bounds-is_same-count : goal.slice_bounds-is_same-count
-slice_bounds-is_same-count c = c.bar_from-bar.ensures.from
+pub loop-bar-preserved : goal.loop-bar-preserved
+loop-bar-preserved c = (
+  grind (arith, common_steps),
+  left_pass _ _ _ c.in-Some.ensures (sym c.eq.ensures ∙ c.if-eq.false) ∙ c.loop-bar.invariant.1,
+)
 
-pub slice_bounds-is_same-start : goal.slice_bounds-is_same-start
-slice_bounds-is_same-start c = c.bar_from-bar.ensures.from
-
-pub slice_bounds-is_same-end : goal.slice_bounds-is_same-end
-slice_bounds-is_same-end c = c.bar_from-bar.ensures.within
-
-pub returns-then-is_same : goal.returns-then-is_same
-returns-then-is_same c = names_hit c.args.names.now c.args.name.now c.loop-at.at c.bar_from-bar.result c.loop-at.invariant c.bar_from-bar.ensures c.if-names-bar.false (sym c.is_same.ensures ∙ c.if-is_same.true)
-
-pub overflow_add-at : goal.overflow_add-at
-overflow_add-at c = omega arith
-
-pub loop-at-smaller : goal.loop-at-smaller
-loop-at-smaller c = omega arith
-
-pub loop-at-preserved : goal.loop-at-preserved
-loop-at-preserved c = names_pass c.args.names.now c.args.name.now c.loop-at.at c.bar_from-bar.result c.loop-at.invariant c.bar_from-bar.ensures c.if-names-bar.false (sym c.is_same.ensures ∙ c.if-is_same.false)
+pub returns : goal.returns
+returns c = sym (left_last _ _ c.in_default.ensures) ∙ c.loop-bar.invariant.1

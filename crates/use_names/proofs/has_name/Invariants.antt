@@ -1,13 +1,14 @@
--- `use_names::has_name` meets its contract. The loop's invariant: the name is one of those from at on if it is one of
--- all.
+-- `use_names::has_name` meets its contract. The loop's invariant: the name is one of those left if it is one of all.
 -- Assumes nothing.
-use Prim.Native.Nat.{◌-◌}
+use mathlib.Core.Path.{◌≡◌}
+use Prim.Native.Nat.{◌≤◌}
 use lib.ListN.{length}
-use Rattle.use_names.proofs.NameLaws.{NamesFrom}
+use Rattle.text.specs.Building.{has_name}
+use Rattle.use_names.proofs.NameLaws.{is_left}
 use Rattle.use_names.proofs.has_name.Given as goal
 
-abbrev pub invariant-loop-at : goal.invariant-loop-at
-invariant-loop-at l = NamesFrom l.names l.name l.at
+abbrev pub invariant-loop-bar : goal.invariant-loop-bar
+invariant-loop-bar l = (length l.rest ≤ length l.names) × (is_left l.name l.rest ≡ has_name l.name l.names)
 
-abbrev pub decreases-loop-at : goal.decreases-loop-at
-decreases-loop-at l = length l.names - l.at
+abbrev pub decreases-loop-bar : goal.decreases-loop-bar
+decreases-loop-bar l = length l.rest

@@ -9,11 +9,6 @@ use Rattle.use_turns.proofs.ReadLaws.{joined}
 use Rattle.use_turns.proofs.height_of.Given as goal
 
 abbrev pub invariant-loop-i : goal.invariant-loop-i
-invariant-loop-i l = (l.from ≤ l.i)
-    × ((l.i ≤ l.end)
-    × ((l.h ≤ 255)
+invariant-loop-i l = (l.h ≤ 255)
     × ((places : List ℕ) → height_of (heights_of l.heights) (uses_from places l.targets l.from (l.end - l.from))
-    ≡ joined l.h (height_of (heights_of l.heights) (uses_from places l.targets l.i (l.end - l.i))))))
-
-abbrev pub decreases-loop-i : goal.decreases-loop-i
-decreases-loop-i l = l.end - l.i
+    ≡ joined l.h (height_of (heights_of l.heights) (uses_from places l.targets l.i (l.end - l.i))))

@@ -39,7 +39,9 @@ loop-i-smaller-in-Byte c =
 
 pub loop-i-preserved-in-Byte : goal.loop-i-preserved-in-Byte
 loop-i-preserved-in-Byte c = (
-  rw c.stored_byte.ensures (name_byte c.loop-i.invariant.0 _ _ (sym c.item_at.ensures ∙ c.in-Byte.is) (omega (arith, c.loop-i.invariant.1, c.if-n-ge-ALIAS_MOST.false, c.requires))),
+  rw c.stored_byte.ensures
+      (name_byte c.loop-i.invariant.0 _ _ (sym c.item_at.ensures ∙ c.in-Byte.is)
+      (omega (arith, c.loop-i.invariant.1, c.if-n-ge-ALIAS_MOST.false, c.requires))),
   length-set c.loop-i.name c.loop-i.n c.stored_byte.result ∙ c.loop-i.invariant.1,
   omega (arith, c.if-n-ge-ALIAS_MOST.false),
 )

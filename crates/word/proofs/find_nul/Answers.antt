@@ -1,7 +1,8 @@
 -- `word::find_nul` meets its contract. The invariant: the first NUL from a on is the first from i on.
-use Prim.Native.Nat.{◌-◌}
-use mathlib.Core.Path.{sym, ◌∙◌}
+use mathlib.Core.Path.{◌≡◌, sym, ◌∙◌}
+use native.Mathlib.Omega.{arith}
 use borrow.Author.Tests.{ne_eqb}
+use Rattle.base.proofs.IfLaws.{below_or}
 use Rattle.base.proofs.ScanLaws.{scan_step, scan_hit, scan_end}
 use Rattle.word.specs.Nul.{not_nul_at}
 use Rattle.word.proofs.find_nul.Goals as goal
@@ -19,4 +20,11 @@ loop-i-preserved c =
 pub returns : goal.returns
 returns c =
     let a = c.args in
-    sym (c.loop-i.invariant ∙ scan_end (not_nul_at a.f.now) c.loop-i.i a.e c.loop-i-test.false)
+    let i = c.loop-i.i in
+    below_or a.a a.e
+    (λ h.
+    let m : c.max.result ≡ i = omega arith in
+    m ∙ sym (c.loop-i.invariant ∙ scan_end (not_nul_at a.f.now) i a.e c.loop-i-test.false))
+    (λ h.
+    let m : c.max.result ≡ a.a = omega arith in
+    m ∙ sym (scan_end (not_nul_at a.f.now) a.a a.e h))

@@ -1,10 +1,11 @@
 -- `file::put_front` meets its contract: the head and the slots are put one behind the other.
 -- Assumes nothing.
 use mathlib.Core.Path.{◌∙◌}
+use mathlib.Core.List.{[]}
 use native.Mathlib.Omega.{arith}
 use Rattle.write_laws.specs.File.{head, slots}
 use Rattle.write_laws.proofs.FileLaws.{front_put}
-use Rattle.entry.specs.Handed.{front_handed}
+use Rattle.entry.specs.Handed.{handed_by}
 use Rattle.write_file.proofs.put_front.Goals as goal
 
 pub put_head-requires : goal.put_head-requires
@@ -31,4 +32,4 @@ shape_of-b c = c.put_slots.auto.b ∙ c.put_head.auto.b
 pub returns : goal.returns
 unfolding head slots
 returns c =
-    front_put c.args.s (front_handed c.args.names.now c.args.boolean_kinds.now c.args.number_kinds.now c.args.number_values.now c.args.string_kinds.now c.args.string_lengths.now) c.requires.named c.args.b.now c.put_head.new.b c.put_slots.new.b c.requires.room c.numbers_at.ensures c.put_head.ensures c.put_slots.ensures
+    front_put c.args.s (handed_by c.args.names.now c.args.states.now []) c.requires.named c.args.b.now c.put_head.new.b c.put_slots.new.b c.requires.room c.numbers_at.ensures c.put_head.ensures c.put_slots.ensures

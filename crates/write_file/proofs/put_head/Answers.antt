@@ -4,7 +4,7 @@ use mathlib.Core.Path.{refl, ◌∙◌}
 use mathlib.Core.List.{[]}
 use native.Mathlib.Omega.{arith}
 use Rattle.write_laws.proofs.FileLaws.{head_put}
-use Rattle.entry.specs.Handed.{front_handed}
+use Rattle.entry.specs.Handed.{handed_by}
 use Rattle.write_file.proofs.put_head.Goals as goal
 
 pub put_header-requires : goal.put_header-requires
@@ -60,4 +60,4 @@ shape_of-b c = c.put_pad.auto.b ∙ c.put_booleans.auto.b ∙ c.put_string.auto.
 
 pub returns : goal.returns
 returns c =
-    head_put c.args.s (front_handed c.args.names.now c.args.boolean_kinds.now [] [] [] []) c.requires.named c.args.b.now c.put_header.new.b c.put_string.new.b c.put_booleans.new.b c.put_pad.new.b c.requires.room refl refl c.put_header.ensures c.put_string.ensures c.put_booleans.ensures c.put_pad.ensures
+    head_put c.args.s (handed_by c.args.names.now c.args.states.now []) c.requires.named c.args.b.now c.put_header.new.b c.put_string.new.b c.put_booleans.new.b c.put_pad.new.b c.requires.room refl refl c.put_header.ensures c.put_string.ensures c.put_booleans.ensures c.put_pad.ensures

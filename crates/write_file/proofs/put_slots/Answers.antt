@@ -4,7 +4,7 @@ use mathlib.Core.Path.{◌∙◌}
 use mathlib.Core.List.{[]}
 use native.Mathlib.Omega.{arith}
 use Rattle.write_laws.proofs.FileLaws.{slots_put}
-use Rattle.entry.specs.Handed.{front_handed}
+use Rattle.entry.specs.Handed.{handed_by}
 use Rattle.write_file.proofs.put_slots.Goals as goal
 
 pub put_numbers-requires : goal.put_numbers-requires
@@ -34,4 +34,4 @@ shape_of-b c = c.put_slots.auto.b ∙ c.put_numbers.auto.b
 
 pub returns : goal.returns
 returns c =
-    slots_put c.args.s (front_handed [] [] c.args.number_kinds.now c.args.number_values.now c.args.string_kinds.now c.args.string_lengths.now) c.args.b.now c.put_numbers.new.b c.put_slots.new.b c.args.at c.requires.room c.put_numbers.ensures c.put_slots.ensures
+    slots_put c.args.s (handed_by [] c.args.states.now []) c.args.b.now c.put_numbers.new.b c.put_slots.new.b c.args.at c.requires.room c.put_numbers.ensures c.put_slots.ensures

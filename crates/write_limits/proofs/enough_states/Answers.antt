@@ -12,9 +12,9 @@ pub returns-then-not-edition_ok : goal.returns-then-not-edition_ok
 unfolding enough_states
 returns-then-not-edition_ok c = rw (sym c.edition_ok.ensures ∙ c.if-not-edition_ok.true)
 
-pub returns-then-boolean_kinds-e : goal.returns-then-boolean_kinds-e
+pub returns-then-states-e : goal.returns-then-states-e
 unfolding enough_states
-returns-then-boolean_kinds-e c = simp (lt-leb _ _ c.if-boolean_kinds-e.true, and-false)
+returns-then-states-e c = simp (lt-leb _ _ c.if-states-e.true, and-false)
 
 pub returns-then-least-e : goal.returns-then-least-e
 unfolding enough_states
@@ -24,5 +24,5 @@ pub returns : goal.returns
 unfolding enough_states
 returns c =
     let t = sym c.edition_ok.ensures ∙ c.if-not-edition_ok.false in
-    let l = c.least-3.ensures ∙ ap (min (length c.args.string_kinds.now)) c.least-2.ensures in
-    rw (t, le-leb _ _ c.if-boolean_kinds-e.false, le-leb _ _ (rw c.least.ensures at c.if-least-e.false), l)
+    let l = c.least-2.ensures ∙ ap (min (length c.args.states.now.strings.kinds.now)) c.least-content.ensures in
+    rw (t, le-leb _ _ c.if-states-e.false, le-leb _ _ (rw c.least.ensures at c.if-least-e.false), l)

@@ -3,7 +3,7 @@
 use mathlib.Core.Path.{◌≡◌}
 use mathlib.Core.Bool.{Bool}
 use mathlib.Core.List.{List}
-use Prim.Native.Nat.{ℕ, ◌-◌, ◌≤◌}
+use Prim.Native.Nat.{ℕ, ◌-◌}
 use Rattle.base.specs.Scan.{scan}
 use Rattle.entry.specs.Writing.{boolean_fits_at}
 use Rattle.entry.specs.Handed.{booleans_handed}
@@ -13,7 +13,4 @@ abbrev okAt : List ℕ → ℕ → Bool
 okAt kinds = boolean_fits_at (booleans_handed kinds)
 
 abbrev pub invariant-loop-i : goal.invariant-loop-i
-invariant-loop-i l = (l.i ≤ l.n) × (scan (okAt l.kinds) 0 l.n ≡ scan (okAt l.kinds) l.i (l.n - l.i))
-
-abbrev pub decreases-loop-i : goal.decreases-loop-i
-decreases-loop-i l = l.n - l.i
+invariant-loop-i l = scan (okAt l.kinds) 0 l.n ≡ scan (okAt l.kinds) l.i (l.n - l.i)

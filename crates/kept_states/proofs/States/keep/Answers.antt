@@ -1,0 +1,51 @@
+-- `kept_states::States::keep` meets its contract: one law for each kind of capability.
+-- Assumes nothing.
+use mathlib.Core.Path.{subst}
+use native.Mathlib.Omega.{arith}
+use Rattle.judge.specs.Judged.{SaidIn}
+use Rattle.compile_laws.proofs.KeepLaws.{keeps_nothing, keeps_use, keeps_boolean, keeps_number, keeps_string}
+use Rattle.kept_states.proofs.States.keep.Goals as goal
+
+pub keep_boolean-requires : goal.keep_boolean-requires
+keep_boolean-requires c =
+    let l = subst (SaidIn c.args.edition c.args.text.now) c.in-Boolean.is c.requires.0 in
+    let g = c.requires.1.given.booleans in
+    omega arith
+
+pub keep_number-requires : goal.keep_number-requires
+keep_number-requires c =
+    let l = subst (SaidIn c.args.edition c.args.text.now) c.in-Number.is c.requires.0 in
+    let g = c.requires.1.given.number_kinds in
+    let f = c.requires.1.given.number_values in
+    (omega arith, omega arith)
+
+pub keep_string-requires : goal.keep_string-requires
+keep_string-requires c =
+    let l = (subst (SaidIn c.args.edition c.args.text.now) c.in-String.is c.requires.0).0 in
+    let g = c.requires.1.given.string_kinds in
+    let f = c.requires.1.given.string_starts in
+    let k = c.requires.1.given.string_lengths in
+    (omega arith, (omega arith, omega arith))
+
+pub returns-in-Nothing : goal.returns-in-Nothing
+returns-in-Nothing c =
+    keeps_nothing c.args.edition _ _ _ _ _ _ _ c.requires.1 _ c.in-Nothing.is
+
+pub returns-in-Boolean : goal.returns-in-Boolean
+returns-in-Boolean c =
+    let l = subst (SaidIn c.args.edition c.args.text.now) c.in-Boolean.is c.requires.0 in
+    keeps_boolean c.args.edition _ _ _ _ _ _ _ c.requires.1 _ _ _ _ l c.keep_boolean.ensures c.in-Boolean.is
+
+pub returns-in-Number : goal.returns-in-Number
+returns-in-Number c =
+    let l = subst (SaidIn c.args.edition c.args.text.now) c.in-Number.is c.requires.0 in
+    keeps_number c.args.edition _ _ _ _ _ _ _ c.requires.1 _ _ _ _ _ _ l c.keep_number.ensures.0 c.keep_number.ensures.1 c.in-Number.is
+
+pub returns-in-String : goal.returns-in-String
+returns-in-String c =
+    let l = subst (SaidIn c.args.edition c.args.text.now) c.in-String.is c.requires.0 in
+    keeps_string c.args.edition _ _ _ _ _ _ _ c.requires.1 _ _ _ _ _ _ _ _ l.0 l.1 c.keep_string.ensures.0 c.keep_string.ensures.1.0 c.keep_string.ensures.1.1 c.in-String.is
+
+pub returns-in-Use : goal.returns-in-Use
+returns-in-Use c =
+    keeps_use c.args.edition _ _ _ _ _ _ _ c.requires.1 _ _ _ c.in-Use.is
