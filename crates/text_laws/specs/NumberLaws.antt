@@ -13,6 +13,7 @@ use Rattle.base.proofs.IfLaws.{below_or}
 use Rattle.text.specs.declared.NumberBase.{NumberBase}
 use Rattle.text.specs.declared.NumberBase.TheVariants.{Octal, Decimal, Hexadecimal}
 use Rattle.text.specs.declared.ByteClass.TheVariants as C
+use Rattle.text.specs.declared.FieldForm.{FieldForm}
 use Rattle.text.specs.declared.FieldForm.TheVariants as F
 use Rattle.text.specs.Bytes.{digit_of, base_of, run_end}
 use Rattle.entry.specs.Limits.{number_most}
@@ -64,6 +65,29 @@ module _ (base : ℕ) (t : List ℕ) (at e : ℕ) where
     pub valued_fits : base ≤ 16 → v * base ≤ number_most * 16
     valued_fits b = mul-le-mul s.small b
 
+-- ---- a number's form, by its value and the count of its digits
+
+module _ (v n : ℕ) where
+  pub form_many : digits_most < n → F.LargeNumber ≡ number_form v n
+  unfolding number_form
+  form_many l = rw (lt-leb n digits_most l) (by_test (leb v number_most))
+    where
+      by_test : (b : Bool) → F.LargeNumber ≡ (when b && false then F.Number v else F.LargeNumber)
+      by_test true = refl
+      by_test false = refl
+
+  -- w is the value, or one above the most where that is less
+  module _ (w : ℕ) (m : w ≡ min v (number_most + 1)) where
+    pub form_large : number_most < w → F.LargeNumber ≡ number_form v n
+    unfolding number_form
+    form_large h = rw (lt-leb v number_most (omega arith))
+
+    pub form_small : n ≤ digits_most → w ≤ number_most → F.Number w ≡ number_form v n
+    unfolding number_form
+    form_small l h =
+        let k : v ≡ w = omega arith in
+        rw (k, le-leb w number_most h, le-leb n digits_most l)
+
 -- ---- the digits at a place
 
 pub base_fits : (base : NumberBase) → (1 ≤ base_of base) × (base_of base ≤ 16)
@@ -89,25 +113,24 @@ module _ (base : NumberBase) (t : List ℕ) (i e : ℕ) (q : e ≡ run_end (C.Di
     unfolding digits_in
     digits_some = rw (← q, ne_eqb e i n)
 
--- ---- a number's form, by its value and the count of its digits
+    -- the same by what the digits come to
 
-module _ (v n : ℕ) where
-  pub form_many : digits_most < n → F.LargeNumber ≡ number_form v n
-  unfolding number_form
-  form_many l = rw (lt-leb n digits_most l) (by_test (leb v number_most))
-    where
-      by_test : (b : Bool) → F.LargeNumber ≡ (when b && false then F.Number v else F.LargeNumber)
-      by_test true = refl
-      by_test false = refl
+    digits_are : (f : FieldForm) → f ≡ number_form (with_digits (base_of base) t i (e - i) 0) (e - i)
+        → formed f e ≡ digits_at base t i
+    digits_are f h = ap (λ (g : FieldForm). formed g e) h ∙ digits_some
 
-  -- w is the value, or one above the most where that is less
-  module _ (w : ℕ) (m : w ≡ min v (number_most + 1)) where
-    pub form_large : number_most < w → F.LargeNumber ≡ number_form v n
-    unfolding number_form
-    form_large h = rw (lt-leb v number_most (omega arith))
+    pub digits_many : digits_most < e - i → formed F.LargeNumber e ≡ digits_at base t i
+    digits_many l = digits_are F.LargeNumber (form_many (with_digits (base_of base) t i (e - i) 0) (e - i) l)
 
-    pub form_small : n ≤ digits_most → w ≤ number_most → F.Number w ≡ number_form v n
-    unfolding number_form
-    form_small l h =
-        let k : v ≡ w = omega arith in
-        rw (k, le-leb w number_most h, le-leb n digits_most l)
+    -- v is the value, or one above the most where that is less
+    module _ (v : ℕ)
+        (m : v ≡ min (with_digits (base_of base) t i (e - i) 0) (number_most + 1))
+        (l : e - i ≤ digits_most)
+      where
+        pub digits-large : number_most < v → formed F.LargeNumber e ≡ digits_at base t i
+        digits-large h =
+            digits_are F.LargeNumber (form_large (with_digits (base_of base) t i (e - i) 0) (e - i) v m h)
+
+        pub digits-small : v ≤ number_most → formed (F.Number v) e ≡ digits_at base t i
+        digits-small h =
+            digits_are (F.Number v) (form_small (with_digits (base_of base) t i (e - i) 0) (e - i) v m l h)
