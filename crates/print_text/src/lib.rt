@@ -15,5 +15,7 @@ pub fn put_text(out: &mut [u8], at: usize, texts: &[u8], start: usize, n: usize)
     if out.len() < at + n {
         return;
     }
-    out[at..at + n].copy_from_slice(&texts[start..start + n]);
+    for i in 0..n {
+        out[at + i] = texts[start + i];
+    }
 }

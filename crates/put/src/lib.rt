@@ -39,8 +39,9 @@ pub fn put_bytes(b: &mut [u8], at: usize, s: &[u8])
     requires { at + length s.now ≤ length b.old }
     ensures { b.new ≡ put_at b.old at s.now }
 {
-    let end = at + s.len();
-    b[at..end].copy_from_slice(s);
+    for i in 0..s.len() {
+        b[at + i] = s[i];
+    }
 }
 
 // A run of bytes and a NUL.
