@@ -11,18 +11,36 @@ ghost use Rattle.expansion.specs.Counting.{room_with};
 ghost use Rattle.expansion.specs.Arguments.{values_of};
 ghost use Rattle.expansion.specs.Expanding.{ended, formed};
 ghost use Rattle.arguments.specs.Judged.{AllJudged, NoneLonger};
+ghost use Rattle.expand_run.specs.Runs.{refusal_of};
 ghost use Rattle.expand_output.specs.Answers.{LentAs, KeptAs};
 
-use expand_run::run;
+use expand_run::{RunRefusal, run};
 use expansion::{Argument, ExpansionRefusal, Output};
+
+// Copies the first n bytes.
+fn copy(from: &[u8], n: usize, out: &mut [u8])
+    requires { (n ≤ length from.now) × (n ≤ length out.old) }
+    ensures { out.new ≡ put_at out.old 0 (take n from.now) }
+{
+    for i in 0..n {
+        out[i] = from[i];
+    }
+}
 
 // Keeps a buffer's first bytes, as many as the short buffer holds, and says how many.
 fn keep(out: &[u8], short: &mut [u8]) -> usize
     ensures { KeptAs out.now short.old short.new result }
 {
     let end = out.len().min(short.len());
-    short[..end].copy_from_slice(&out[..end]);
+    copy(out, end, short);
     end
+}
+
+// What a run's refusal is for the caller.
+fn refused(refusal: RunRefusal) -> ExpansionRefusal
+    ensures { result ≡ refusal_of refusal }
+{
+    ExpansionRefusal::from(refusal)
 }
 
 // Expands a string whose form is right from the buffer's first byte on. A run prints into the buffer's first bytes, as
@@ -47,23 +65,25 @@ fn expand_right(
     let saved = *lasting;
     // at most two runs, the second for a length that the first tells: no range counts them
     loop {
-        let refusal = match run(s, arguments, texts, lasting, &mut out[..end]) {
-            Err(refusal) => ExpansionRefusal::from(refusal),
+        match run(s, arguments, texts, lasting, &mut out[..end]) {
+            Err(refusal) => {
+                copy(short, end, out);
+                *lasting = saved;
+                return Err(refused(refusal));
+            }
             Ok(output) => {
+                if out.len() < output.length {
+                    copy(short, end, out);
+                    *lasting = saved;
+                    return Err(ExpansionRefusal::Room(output.length));
+                }
                 if output.length <= end {
                     return Ok(output);
                 }
-                if output.length <= out.len() {
-                    end = output.length;
-                    *lasting = saved; // what the first run stored is not read
-                    continue;
-                }
-                ExpansionRefusal::Room(output.length)
+                end = output.length;
+                *lasting = saved; // what the first run stored is not read
             }
-        };
-        out[..end].copy_from_slice(&short[..end]);
-        *lasting = saved; // as they came
-        return Err(refusal);
+        }
     }
 }
 

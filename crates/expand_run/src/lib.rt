@@ -120,7 +120,7 @@ pub fn run(
             }
             RunItem::Text => {
                 if depth < 1 {
-                    return Err(RunRefusal::Empty(i)); // 15 comes before 21
+                    return Err(RunRefusal::Empty(i));
                 }
                 depth -= 1;
                 let Operand::Text { start, length: n } = stack[depth] else {
@@ -163,7 +163,7 @@ pub fn run(
                 let mut b: i32 = 0;
                 if 0 < pops {
                     if depth < pops {
-                        return Err(RunRefusal::Empty(i));
+                        return Err(RunRefusal::Empty(i)); // 15 comes before 21
                     }
                     let Operand::Number(top) = stack[depth - 1] else {
                         return Err(RunRefusal::Kind(i));
