@@ -65,11 +65,16 @@ module _ (n s : List ℕ) where
         ap (λ ns. is_among n (all_but_last ns)) (rw z at (parted_bar s 0 e (omega arith) b.0 b.1.1 b.1.0))
         ∙ among_first n (take e s) (names_in (drop (e + 1) s)) (names_some (drop (e + 1) s))
 
-    pub left_hit : pointwise eqb n (take e s) ≡ true → is_left n s ≡ true
-    left_hit h = left_bar ∙ ap (λ u. u || is_left n (drop (e + 1) s)) (sym (bytes_same n (take e s)) ∙ h)
+    -- the name is compared with some bytes, which are those up to the bar
+    module _ (m : List ℕ) (q : m ≡ take e s) where
+      pub left_hit : pointwise eqb n m ≡ true → is_left n s ≡ true
+      left_hit h =
+          left_bar
+          ∙ ap (λ u. u || is_left n (drop (e + 1) s)) (ap (same_bytes n) (sym q) ∙ sym (bytes_same n m) ∙ h)
 
-    pub left_pass : pointwise eqb n (take e s) ≡ false
-        → is_left n (take (length s - (e + 1)) (drop (e + 1) s)) ≡ is_left n s
-    left_pass h =
-        rw (take_all (length s - (e + 1)) (drop (e + 1) s) (rw (length-drop (e + 1) s) (omega arith)))
-        (sym (left_bar ∙ ap (λ u. u || is_left n (drop (e + 1) s)) (sym (bytes_same n (take e s)) ∙ h)))
+      pub left_pass : pointwise eqb n m ≡ false
+          → is_left n (take (length s - (e + 1)) (drop (e + 1) s)) ≡ is_left n s
+      left_pass h =
+          rw (take_all (length s - (e + 1)) (drop (e + 1) s) (rw (length-drop (e + 1) s) (omega arith)))
+          (sym (left_bar
+          ∙ ap (λ u. u || is_left n (drop (e + 1) s)) (ap (same_bytes n) (sym q) ∙ sym (bytes_same n m) ∙ h)))

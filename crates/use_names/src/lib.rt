@@ -86,7 +86,6 @@ pub struct Headers<'a> {
     // how many descriptions there are
     pub count: usize,
     pub ghost inside: { HeadsIn text.now heads.now commas.now count },
-    pub ghost few: { count ≤ descriptions_most },
 }
 
 impl<'a> Headers<'a> {
@@ -122,7 +121,7 @@ impl<'a> Headers<'a> {
 
     // Enters all descriptions, the last first: at a hash of several names stands the first description that has one.
     fn enter_all(&self, firsts: &mut [u8; HASHES])
-        requires { length firsts.old ≡ hashes_count }
+        requires { (self.now.count ≤ descriptions_most) × (length firsts.old ≡ hashes_count) }
         ensures { Firsts self.now.text.now self.now.heads.now self.now.commas.now self.now.count firsts.new 0 }
     {
         for d in (0..self.count).rev() {
@@ -157,7 +156,8 @@ impl<'a> Headers<'a> {
     // Where the first of the uses lead, as many as there are: to the description that has the name, or NO_TARGET. (A
     // number stands for none: an `Option` for each of 3,276 uses would take twice the memory.)
     pub fn resolve(&self, places: &[u16], uses: usize, targets: &mut [u8])
-        requires { (uses ≤ length places.now) × (uses ≤ length targets.old) }
+        requires { (self.now.count ≤ descriptions_most)
+            × ((uses ≤ length places.now) × (uses ≤ length targets.old)) }
         ensures { (e : Edition) (ds : List Description)
             → Listed e self.now.text.now self.now.heads.now self.now.commas.now self.now.count ds
             → Targets self.now.text.now ds places.now targets.new uses }

@@ -17,7 +17,7 @@ ghost use Rattle.use_turns.specs.Turned.{Judged, Finishes, Advances};
 use text::{DESCRIPTIONS_MOST, TextRefusal, TextRefused};
 
 // The most open descriptions: the wanted one, and one for each use of a chain.
-const OPEN_MOST: usize = 9;
+pub const OPEN_MOST: usize = 9;
 
 // The target of a use whose name no description has. (A number stands for none: an `Option` for each of 3,276 uses
 // would take twice the memory.)
@@ -25,7 +25,7 @@ const NO_TARGET: usize = uses::NO_TARGET as usize;
 
 // The height of a description that is not finished. (A number stands for none: with an `Option` for each of 64
 // descriptions the heights would take twice the memory.)
-const UNFINISHED: usize = 255;
+pub const UNFINISHED: usize = 255;
 
 // The uses of a text's descriptions: those of description d stand from `starts[d]` up to `starts[d + 1]`, each with
 // the place of its field and its target, the description to which it leads.
@@ -44,11 +44,11 @@ pub struct Uses<'a> {
 #[derive(Clone, Copy)]
 pub struct Frames {
     // the first `depth` of these are open
-    stack: [usize; OPEN_MOST],
+    pub stack: [usize; OPEN_MOST],
     // the next use of each
-    next: [usize; OPEN_MOST],
-    heights: [usize; DESCRIPTIONS_MOST],
-    depth: usize,
+    pub next: [usize; OPEN_MOST],
+    pub heights: [usize; DESCRIPTIONS_MOST],
+    pub depth: usize,
 }
 
 // What the last open description's next use asks for.

@@ -23,8 +23,7 @@ returns-in_err-count c =
     rw (p.1, p.2) (text_bad c.args.edition c.args.text.now (wanted_by c.args.wanted) _ _ c.in_err-count.ensures c.args.buffer.now)
 
 pub invariant_of-headers : goal.invariant_of-headers
-invariant_of-headers c =
-    record { inside = listed_heads c.in_ok-count.ensures.1.0; few = c.in_ok-count.ensures.1.0.few }
+invariant_of-headers c = record { inside = listed_heads c.in_ok-count.ensures.1.0 }
 
 pub compile_found-requires : goal.compile_found-requires
 compile_found-requires c =

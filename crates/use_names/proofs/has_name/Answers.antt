@@ -13,7 +13,8 @@ loop-bar-init c = (omega arith, refl)
 
 pub returns-then-eq : goal.returns-then-eq
 returns-then-eq c =
-    sym (left_hit _ _ _ c.in-Some.ensures (sym c.eq.ensures ∙ c.if-eq.true)) ∙ c.loop-bar.invariant.1
+    sym (left_hit _ _ _ c.in-Some.ensures _ (grind (arith, common_steps)) (sym c.eq.ensures ∙ c.if-eq.true))
+    ∙ c.loop-bar.invariant.1
 
 pub overflow_add-rest : goal.overflow_add-rest
 overflow_add-rest c = let b = c.in-Some.ensures.0 in omega arith
@@ -21,7 +22,8 @@ overflow_add-rest c = let b = c.in-Some.ensures.0 in omega arith
 pub loop-bar-preserved : goal.loop-bar-preserved
 loop-bar-preserved c = (
   grind (arith, common_steps),
-  left_pass _ _ _ c.in-Some.ensures (sym c.eq.ensures ∙ c.if-eq.false) ∙ c.loop-bar.invariant.1,
+  left_pass _ _ _ c.in-Some.ensures _ (grind (arith, common_steps)) (sym c.eq.ensures ∙ c.if-eq.false)
+      ∙ c.loop-bar.invariant.1,
 )
 
 pub returns : goal.returns

@@ -3,6 +3,8 @@
 use mathlib.Core.Path.{sym, ap, ◌∙◌}
 use mathlib.Core.List.{List}
 use Prim.Native.Nat.{ℕ}
+use native.Mathlib.Omega.{arith}
+use Rattle.std.proofs.lemmas.Grind.{common_steps}
 use Rattle.text.specs.Building.{having}
 use Rattle.use_names.specs.Having.{says_named}
 use Rattle.use_names.proofs.HavingLaws.{nobody_has}
@@ -16,5 +18,5 @@ returns-in_err-n-clause-named c =
 
 pub returns-clause-named : goal.returns-clause-named
 returns-clause-named c =
-    λ e ds l. c.find_entered.ensures.named e ds l
+    λ e ds l. ap says_named (grind (arith, common_steps)) ∙ c.find_entered.ensures.named e ds l
     ∙ ap (λ (s : List ℕ). having s ds) (reads_name _ _ _ _ c.read.ensures _ c.in_ok-n.was).1
