@@ -177,18 +177,21 @@ pub fn names_in(file: &[u8], n: EntryNumbers) -> Option<Part>
     Some(opened_file::names_opened(file, n.edition, opening.tables))
 }
 
+#[tactic(auto, unfolding(crate::specs::Entries::asked))]
 pub fn boolean_in(file: &[u8], n: EntryNumbers, place: Place) -> Option<State<()>>
     ensures { says_state result ≡ entry_boolean file.now n place }
 {
     opened_file::boolean_if_opened(file, n.edition, opened_as(file, n)?, place)
 }
 
+#[tactic(auto, unfolding(crate::specs::Entries::asked))]
 pub fn number_in(file: &[u8], n: EntryNumbers, place: Place) -> Option<State<u32>>
     ensures { says_state result ≡ entry_number file.now n place }
 {
     opened_file::number_if_opened(file, n.edition, opened_as(file, n)?, place)
 }
 
+#[tactic(auto, unfolding(crate::specs::Entries::asked))]
 pub fn string_in(file: &[u8], n: EntryNumbers, place: Place) -> Option<State<Part>>
     ensures { says_state result ≡ entry_string file.now n place }
 {
