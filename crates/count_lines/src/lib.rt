@@ -42,17 +42,22 @@ pub fn edition_line(edition: Edition, out: &mut [u8]) -> usize
     )
 }
 
-// The line of the slots beyond the edition.
+// The line of the slots beyond the edition; a refused file has none.
 pub fn beyond_line(opened: OpenFile, out: &mut [u8]) -> usize
     requires { line_room opened.file.now ≤ length out.old }
     ensures { Holds result out.new (beyond_line opened.entry.edition opened.entry.file.now) }
 {
-    let beyond = opened.answer.beyond;
-    put_counts(
-        out,
-        b"beyond the edition: ",
-        beyond.booleans,
-        beyond.numbers,
-        beyond.strings,
-    )
+    match opened.answer {
+        Ok(opening) => {
+            let beyond = opening.beyond;
+            put_counts(
+                out,
+                b"beyond the edition: ",
+                beyond.booleans,
+                beyond.numbers,
+                beyond.strings,
+            )
+        }
+        Err(_) => 0,
+    }
 }

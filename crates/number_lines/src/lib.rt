@@ -27,9 +27,7 @@ pub fn number_line(opened: OpenFile, place: Place, out: &mut [u8]) -> usize
     requires { line_room opened.file.now ≤ length out.old }
     ensures { Holds result out.new (number_line opened.entry.edition opened.entry.file.now place) }
 {
-    let file = opened.file;
-    let tables = opened.answer.tables;
-    match opened_file::number_opened(file, opened.edition, tables, place) {
+    match opened_file::number_if_opened(opened.file, opened.edition, opened.answer, place) {
         Some(State::Present(n)) => put_value(out, place, n),
         Some(State::Cancelled) => put_named(out, Kind::Number, place, b"@\n"),
         Some(State::Absent) => 0,

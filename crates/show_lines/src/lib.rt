@@ -43,8 +43,7 @@ fn boolean_line(opened: OpenFile, place: Place, out: &mut [u8]) -> usize
     requires { line_room opened.file.now ≤ length out.old }
     ensures { Holds result out.new (boolean_line opened.entry.edition opened.entry.file.now place) }
 {
-    let tables = opened.answer.tables;
-    match opened_file::boolean_opened(opened.file, opened.edition, tables, place) {
+    match opened_file::boolean_if_opened(opened.file, opened.edition, opened.answer, place) {
         Some(State::Present(())) => put_named(out, Kind::Boolean, place, b"\n"),
         Some(State::Cancelled) => put_named(out, Kind::Boolean, place, b"@\n"),
         Some(State::Absent) => 0,
@@ -57,8 +56,7 @@ fn string_line(opened: OpenFile, place: Place, out: &mut [u8]) -> usize
     requires { line_room opened.file.now ≤ length out.old }
     ensures { Holds result out.new (string_line opened.entry.edition opened.entry.file.now place) }
 {
-    let tables = opened.answer.tables;
-    match opened_file::string_opened(opened.file, opened.edition, tables, place) {
+    match opened_file::string_if_opened(opened.file, opened.edition, opened.answer, place) {
         Some(State::Present(p)) => put_content(out, place, states::part(opened.file, p)),
         Some(State::Cancelled) => put_named(out, Kind::String, place, b"@\n"),
         Some(State::Absent) => 0,
@@ -82,12 +80,15 @@ pub fn capability_line(opened: OpenFile, k: usize, out: &mut [u8]) -> usize
     string_line(opened, Place(behind - edition.numbers), out)
 }
 
-// How many capabilities the edition counts.
+// How many capabilities the edition counts; none where the file is refused.
 pub fn count(opened: OpenFile) -> usize
     ensures { result ≡ count_in opened.entry.edition (opening opened.entry.edition opened.entry.file.now) }
 {
     let edition = opened.edition;
-    edition.booleans + edition.numbers + edition.strings
+    match opened.answer {
+        Ok(_) => edition.booleans + edition.numbers + edition.strings,
+        Err(_) => 0,
+    }
 }
 
 // The line of the capability that looking a name up gave.
@@ -105,12 +106,17 @@ pub fn found_line(opened: OpenFile, found: Option<Found>, out: &mut [u8]) -> usi
     }
 }
 
-// The line of the names.
+// The line of the names; of a refused file they are empty.
 pub fn names_line(opened: OpenFile, out: &mut [u8]) -> usize
     requires { line_room opened.file.now ≤ length out.old }
     ensures { Holds result out.new (names_line opened.entry.edition opened.entry.file.now) }
 {
     let at = put_text(out, 0, b"names: ");
-    let p = opened_file::names_opened(opened.file, opened.edition, opened.answer.tables);
-    put_shown(out, at, NAMES_LEAST, states::part(opened.file, p))
+    match opened.answer {
+        Ok(opening) => {
+            let p = opened_file::names_opened(opened.file, opened.edition, opening.tables);
+            put_shown(out, at, NAMES_LEAST, states::part(opened.file, p))
+        }
+        Err(_) => put_text(out, at, b"\n"),
+    }
 }

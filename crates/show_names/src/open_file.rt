@@ -1,16 +1,16 @@
 // A compiled file whose lines are asked for.
 ghost use Rattle.std.specs.Prelude.{◌≡◌};
-ghost use Rattle.base.specs.Answer.{gives};
 ghost use Rattle.entry.specs.Asking.{opening};
+ghost use Rattle.entry.specs.Says.{says_file};
 
 use edition::Edition;
-use entry::Opening;
+use entry::{FileRefusal, Opening};
 
-// A file that opened in an edition, and what opening it answered.
+// A file, an edition, and what opening the file in the edition answered: a refusal too.
 #[derive(Clone, Copy)]
 pub struct OpenFile<'a> {
     pub file: &'a [u8],
     pub edition: Edition,
-    pub answer: Opening,
-    pub ghost opened: { gives answer ≡ opening edition file.now },
+    pub answer: Result<Opening, FileRefusal>,
+    pub ghost opened: { says_file answer ≡ opening edition file.now },
 }

@@ -194,11 +194,11 @@ impl<'a> Call<'a> {
     fn expand_in(&self, rt: HostRuntime, edition: Edition) -> Result<(), Stop> {
         let mut file = [0u8; FILE_ROOM];
         let file = ti_files::input::read_file(rt, self.path, &mut file)?;
-        let answer = ti_refusals::open(rt, self.path, file, edition)?;
+        let opening = ti_refusals::open(rt, self.path, file, edition)?;
         let opened = OpenFile {
             file,
             edition,
-            answer,
+            answer: Ok(opening),
         };
         self.expand_named(rt, opened)
     }

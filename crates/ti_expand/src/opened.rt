@@ -29,8 +29,7 @@ pub fn expand_opened(
     if !arguments::all_lie_in(arguments, texts.len()) {
         return Err(ExpansionRefusal::Place);
     }
-    let tables = opened.answer.tables;
-    match opened_file::string_opened(opened.file, opened.edition, tables, place) {
+    match opened_file::string_if_opened(opened.file, opened.edition, opened.answer, place) {
         Some(state) => terminfo::expand_state(opened.file, state, arguments, texts, out, at),
         None => Err(ExpansionRefusal::Place),
     }
@@ -67,8 +66,7 @@ fn bounds_of(string: &[u8], longest: u16) -> Bounds
 
 // The bounds for the string at a place; 0 where there is none.
 pub fn bounds_at(opened: OpenFile, place: Place, longest: u16) -> Bounds {
-    let tables = opened.answer.tables;
-    match opened_file::string_opened(opened.file, opened.edition, tables, place) {
+    match opened_file::string_if_opened(opened.file, opened.edition, opened.answer, place) {
         Some(State::Present(p)) => bounds_of(states::part(opened.file, p), longest),
         _ => Bounds { steps: 0, bytes: 0 },
     }

@@ -124,13 +124,13 @@ fn show<'a>(
 ) -> Result<(), Stop>
     requires { length file.now ≤ file_room }
 {
-    let answer = ti_refusals::open(rt, path, file, edition)?;
+    let opening = ti_refusals::open(rt, path, file, edition)?;
     let shown = Shown {
         path,
         opened: OpenFile {
             file,
             edition,
-            answer,
+            answer: Ok(opening),
         },
     };
     if operands.count(rt) == 1 {

@@ -6,8 +6,8 @@ use Rattle.number_lines.specs.Numbers.{number_line}
 use Rattle.show_names.proofs.LineLaws.{holds_none}
 use Rattle.number_lines.proofs.number_line.Goals as goal
 
-pub number_opened-requires : goal.number_opened-requires
-number_opened-requires c = record { beyond = c.args.opened.answer.beyond; given = c.args.opened.opened }
+pub number_if_opened-requires : goal.number_if_opened-requires
+number_if_opened-requires c = c.args.opened.opened
 
 pub returns-in-Some-Present : goal.returns-in-Some-Present
 unfolding number_line

@@ -6,8 +6,8 @@ use Rattle.show_lines.specs.Lines.{boolean_line}
 use Rattle.show_names.proofs.LineLaws.{holds_none}
 use Rattle.show_lines.proofs.boolean_line.Goals as goal
 
-pub boolean_opened-requires : goal.boolean_opened-requires
-boolean_opened-requires c = record { beyond = c.args.opened.answer.beyond; given = c.args.opened.opened }
+pub boolean_if_opened-requires : goal.boolean_if_opened-requires
+boolean_if_opened-requires c = c.args.opened.opened
 
 pub returns-in-Some-Present : goal.returns-in-Some-Present
 unfolding boolean_line

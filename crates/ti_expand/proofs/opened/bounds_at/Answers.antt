@@ -3,8 +3,8 @@
 use Rattle.opened_file.proofs.Laws.{string_inside}
 use Rattle.ti_expand.proofs.opened.bounds_at.Goals as goal
 
-pub string_opened-requires : goal.string_opened-requires
-string_opened-requires c = record { beyond = c.args.opened.answer.beyond; given = c.args.opened.opened }
+pub string_if_opened-requires : goal.string_if_opened-requires
+string_if_opened-requires c = c.args.opened.opened
 
 pub part-requires : goal.part-requires
 part-requires c =

@@ -13,20 +13,20 @@ returns-then-not-all_lie_in c =
     written_beyond _ _ _ _ _ _ _ _ c.if-out-at.false
     (sym (c.all_lie_in.ensures c.args.texts.now refl) ∙ c.if-not-all_lie_in.true)
 
-pub string_opened-requires : goal.string_opened-requires
-string_opened-requires c = record { beyond = c.args.opened.answer.beyond; given = c.args.opened.opened }
+pub string_if_opened-requires : goal.string_if_opened-requires
+string_if_opened-requires c = c.args.opened.opened
 
 pub expand_state-requires : goal.expand_state-requires
-expand_state-requires c = state_inside _ _ _ _ (ap says_state (sym c.in-Some.is) ∙ c.string_opened.ensures)
+expand_state-requires c = state_inside _ _ _ _ (ap says_state (sym c.in-Some.is) ∙ c.string_if_opened.ensures)
 
 pub returns-in-Some : goal.returns-in-Some
 returns-in-Some c =
     written_asked _ _ _ _ _ _ _ _ _ _ _ c.if-out-at.false
     (sym (c.all_lie_in.ensures c.args.texts.now refl) ∙ c.if-not-all_lie_in.false)
-    (ap says_state (sym c.in-Some.is) ∙ c.string_opened.ensures) c.expand_state.ensures
+    (ap says_state (sym c.in-Some.is) ∙ c.string_if_opened.ensures) c.expand_state.ensures
 
 pub returns-in-None : goal.returns-in-None
 returns-in-None c =
     written_asked _ _ _ _ _ _ _ _ _ _ _ c.if-out-at.false
     (sym (c.all_lie_in.ensures c.args.texts.now refl) ∙ c.if-not-all_lie_in.false)
-    (ap says_state (sym c.in-None.is) ∙ c.string_opened.ensures) (record { answer = refl; output = refl })
+    (ap says_state (sym c.in-None.is) ∙ c.string_if_opened.ensures) (record { answer = refl; output = refl })
