@@ -3,7 +3,7 @@
 Counted in the disassembly of the archives (x86-64): of each function the return address, every push,
 every enlargement of the frame and what it uses below the stack pointer, added up along the longest
 chain of calls, and the arguments that the caller puts there. No function calls itself. The C
-library's memcpy, memmove, memset and strlen count with their return address only.
+library's memcpy, memset and strlen count with their return address only.
 
     stack.py HEADER ARCHIVE..
 
@@ -22,7 +22,7 @@ RELOCATION = re.compile(r"R_X86_64_(?:PLT32|PC32)\s+(?:\.text\.)?(\S+?)[-+]0x[0-
 BELOW = re.compile(r"-0x([0-9a-f]+)\(%rsp")
 STATED = re.compile(r"Uses at most ([\d,]+) bytes of stack")
 CALL_IN_HEADER = re.compile(r"^uint64_t (terminfo_\w+)\(([^)]*)\);", re.MULTILINE)
-EXTERNAL = ("memcpy", "memmove", "memset", "strlen")
+EXTERNAL = ("memcpy", "memset", "strlen")
 
 
 def disassembly(archive):

@@ -66,8 +66,8 @@
  *
  * No call uses the heap or keeps anything from one call to the next. What each says of its stack is
  * counted in the disassembly of the library on x86-64 (bench/stack.py): frames, return addresses and
- * arguments along the longest chain of calls, whatever the input. What memcpy, memmove, memset and
- * strlen of the C library use comes on top, and once what the dynamic linker uses to find them.
+ * arguments along the longest chain of calls, whatever the input. What memcpy, memset and strlen of
+ * the C library use comes on top, and once what the dynamic linker uses to find them.
  */
 #ifndef TERMINFO_C_H
 #define TERMINFO_C_H
