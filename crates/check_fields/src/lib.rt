@@ -9,6 +9,7 @@ ghost use Rattle.each_field.specs.Each.{Recorded};
 
 use each_field::{Keeping, Passed};
 use edition::Edition;
+use kept_states::States;
 use text::TextRefused;
 
 // Judges the fields from the place past a comma on, up to the next header, the text's end or the first bad field, and
@@ -25,7 +26,16 @@ pub fn check(
     ensures { Recorded edition text.now at places.old uses places.new result }
 {
     let mut keeping = Keeping::Uses(places);
-    let answer = each_field::each(text, at, edition, &mut keeping, uses);
+    // no state is kept
+    let mut states = States {
+        boolean_kinds: &mut [],
+        number_kinds: &mut [],
+        number_values: &mut [],
+        string_kinds: &mut [],
+        string_starts: &mut [],
+        string_lengths: &mut [],
+    };
+    let answer = each_field::each(text, at, edition, &mut keeping, &mut states, uses);
     if let Keeping::Uses(places) = keeping {
         let _ = places; // they are lent no more
     }

@@ -1,11 +1,11 @@
 -- Laws of compiling a text that may have one description without uses.
 -- Assumes nothing.
 use mathlib.Core.Path.{◌≡◌, refl, sym, ap, ◌∙◌, subst}
-use mathlib.Core.Bool.{Bool, true}
+use mathlib.Core.Bool.{true}
 use mathlib.Core.List.{List, [], ◌∷◌}
 use Prim.Native.Nat.{ℕ, ◌+◌}
 use lib.ListN.{length}
-use Rattle.std.specs.Prelude.{Result, Ok, Err}
+use Rattle.std.specs.Prelude.{Ok, Err}
 use Rattle.base.specs.Answer.{Answer, refused, Leaves}
 use Rattle.edition.specs.declared.Edition.{Edition}
 use Rattle.entry.specs.Reading.{Entry}
@@ -22,8 +22,6 @@ use Rattle.text.specs.Refusals.{text_number, text_refused}
 use Rattle.text.specs.Compiling.{fitted, fitting_named}
 use Rattle.building_laws.specs.Alone.{HasWanted, alone_none, alone_indented, alone_bad, alone_refused}
 use Rattle.building_laws.specs.Alone.{alone_gives}
-use Rattle.kept_states.specs.declared.States.{States}
-use Rattle.kept_states.specs.States.{held, none_held}
 use Rattle.walk_fields.specs.Walks.{Walks}
 use Rattle.compile_laws.specs.Held.{text_entry}
 use Rattle.wanted.specs.Wanted.{wants}
@@ -55,12 +53,6 @@ module _ (e : Edition) (t : List ℕ) (w : Wanted) (b : List ℕ) where
   header_bad i q why h = bad (text_number why) (0 ∷ []) _ (alone_bad e t w i q why h) b
 
 -- ---- the fields behind the header
-
-pub walks_as : (e : Edition) (t : List ℕ) (at : ℕ) (s : States) (after : List ℕ → Handed) (r q : Result Bool TextRefused)
-    → s ≡ none_held → r ≡ q → Walks e at (held s t) after r → Walks e at (cleared e t) after q
-walks_as e t at s after r q u v k =
-    subst (λ (z : Result Bool TextRefused). Walks e at (cleared e t) after z) v
-    (subst (λ (z : States). Walks e at (held z t) after r) u k)
 
 module _ (e : Edition) (t : List ℕ) (i c : ℕ) (q : line_at t 0 ≡ Column i) (h : header_at t i ≡ Ok c)
     (after : List ℕ → Handed) where

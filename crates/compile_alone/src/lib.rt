@@ -15,9 +15,11 @@ ghost use Rattle.building_laws.specs.Alone.{HasWanted};
 ghost use Rattle.wanted.specs.Wanted.{wanted_by};
 ghost use Rattle.compile_alone.specs.Tries.{Tries};
 
-use edition::Edition;
+use edition::{BOOLEANS_MOST, Edition, NUMBERS_MOST, STRINGS_MOST};
+use entry::ABSENT;
 use kept_states::States;
 use text::{CompileRefusal, Line, TextRefusal, TextRefused};
+use text_file::UNSET;
 
 // The refusal of the text's first header, or of what stands in its place.
 fn refused(why: TextRefusal) -> Option<Result<usize, CompileRefusal>>
@@ -41,7 +43,20 @@ fn try_fields(
         → Tries (fitted (length buffer.old) (building_text edition text.now w))
         buffer.old buffer.new result }
 {
-    let mut states = States::new();
+    let mut boolean_kinds = [ABSENT; BOOLEANS_MOST];
+    let mut number_kinds = [ABSENT; NUMBERS_MOST];
+    let mut number_values = [0u32; NUMBERS_MOST];
+    let mut string_kinds = [ABSENT; STRINGS_MOST];
+    let mut string_starts = [UNSET; STRINGS_MOST];
+    let mut string_lengths = [UNSET; STRINGS_MOST];
+    let mut states = States {
+        boolean_kinds: &mut boolean_kinds,
+        number_kinds: &mut number_kinds,
+        number_values: &mut number_values,
+        string_kinds: &mut string_kinds,
+        string_starts: &mut string_starts,
+        string_lengths: &mut string_lengths,
+    };
     match walk_fields::walk(text, comma + 1, edition, &mut states) {
         Ok(is_alone) => {
             if is_alone {

@@ -30,18 +30,10 @@ use Rattle.building_laws.proofs.Over.{bare_over}
 use Rattle.compile_laws.specs.Held.{text_entry}
 use Rattle.text_laws.specs.HeadingLaws.{header_right}
 use Rattle.compile_laws.specs.Listed.{text_descriptions, Listed, UsesListed, Targets}
-use Rattle.kept_states.specs.declared.States.{States}
-use Rattle.kept_states.specs.States.{held, none_held}
 use Rattle.use_walk.specs.Walks.{Arrays, put_own, walked_to, WalksUses}
 use Rattle.compile_laws.proofs.ClearedLaws.{cleared, cleared_entry}
 
 -- ---- the walk along the uses
-
-pub walks_as : (e : Edition) (d : ℕ) (t : List ℕ) (s : States) (after : List ℕ → Handed) (r q : Result (Unit {0}) TextRefused)
-    → s ≡ none_held → r ≡ q → WalksUses e d (held s t) after r → WalksUses e d (cleared e t) after q
-walks_as e d t s after r q u v k =
-    subst (λ (z : Result (Unit {0}) TextRefused). WalksUses e d (cleared e t) after z) v
-    (subst (λ (z : States). WalksUses e d (held z t) after r) u k)
 
 module _ (e : Edition) (t : List ℕ) (d : ℕ) (after : List ℕ → Handed) where
   abbrev ds : List Description

@@ -15,9 +15,11 @@ ghost use Rattle.compile_laws.specs.Listed.{text_descriptions, Listed, UsesListe
 ghost use Rattle.use_walk.specs.Walks.{Arrays};
 ghost use Rattle.wanted.specs.Wanted.{wanted_by};
 
-use edition::Edition;
+use edition::{BOOLEANS_MOST, Edition, NUMBERS_MOST, STRINGS_MOST};
+use entry::ABSENT;
 use kept_states::States;
 use text::{CompileRefusal, DESCRIPTIONS_MOST, TEXT_MOST, TextRefusal, TextRefused};
+use text_file::UNSET;
 use use_names::Headers;
 use use_turns::Uses;
 
@@ -43,7 +45,20 @@ fn compile_used(
         buffer.new (says_compiled result) }
 {
     let text = headers.text;
-    let mut states = States::new();
+    let mut boolean_kinds = [ABSENT; BOOLEANS_MOST];
+    let mut number_kinds = [ABSENT; NUMBERS_MOST];
+    let mut number_values = [0u32; NUMBERS_MOST];
+    let mut string_kinds = [ABSENT; STRINGS_MOST];
+    let mut string_starts = [UNSET; STRINGS_MOST];
+    let mut string_lengths = [UNSET; STRINGS_MOST];
+    let mut states = States {
+        boolean_kinds: &mut boolean_kinds,
+        number_kinds: &mut number_kinds,
+        number_values: &mut number_values,
+        string_kinds: &mut string_kinds,
+        string_starts: &mut string_starts,
+        string_lengths: &mut string_lengths,
+    };
     use_walk::walk(text, edition, headers.commas, uses, d, &mut states)?;
     let names = &text[headers.heads[d]..headers.commas[d]];
     text_file::write(text, names, edition, &states.lent(), buffer)

@@ -9,6 +9,7 @@ ghost use Rattle.std.specs.Prelude.{◌≡◌, List, ℕ, [], ◌+◌, ◌≤◌
 ghost use Rattle.base.specs.Overwrite.{put_at};
 ghost use Rattle.text.specs.Bytes.{text_most};
 ghost use Rattle.compile_laws.specs.Listed.{use_places};
+ghost use Rattle.kept_states.specs.States.{SameArrays};
 ghost use Rattle.each_field.specs.Each.{uses_said, said_at};
 ghost use Rattle.each_field.specs.Keeping.{SameLent, Asks, AsksField, KeepsField, Comes};
 
@@ -20,7 +21,7 @@ use text::{Line, Said, TextRefused};
 #[derive(Drop)]
 pub enum Keeping<'a> {
     // their states
-    States(&'a mut States),
+    States,
     // the places of the uses among them, behind those that are there
     Uses(&'a mut [u16]),
 }
@@ -71,30 +72,34 @@ fn keep_field(
     said: Said,
     p: usize,
     keeping: &mut Keeping,
+    states: &mut States,
     uses: usize,
 )
-    requires { AsksField edition text.now said p keeping.old uses }
+    requires { AsksField edition text.now said p keeping.old states.old uses }
     ensures lent { SameLent keeping.old keeping.new }
-    ensures kept { KeepsField edition text.now said p keeping.old uses keeping.new }
+    ensures arrays { SameArrays states.old states.new }
+    ensures kept { KeepsField edition text.now said p keeping.old states.old uses keeping.new states.new }
 {
     match keeping {
-        Keeping::States(states) => states.keep(text, edition, said),
+        Keeping::States => states.keep(text, edition, said),
         Keeping::Uses(places) => keep_place(places, uses, said, p),
     }
 }
 
 // Judges the fields from the place past a comma on and keeps their states, or the places of their uses behind those
-// that are there.
+// that are there; then no state is kept.
 pub fn each(
     text: &[u8],
     at: usize,
     edition: Edition,
     keeping: &mut Keeping,
+    states: &mut States,
     uses: usize,
 ) -> Result<Passed, TextRefused>
-    requires { (uses ≤ at) × Asks edition text.now at keeping.old uses }
+    requires { (uses ≤ at) × Asks edition text.now at keeping.old states.old uses }
     ensures lent { SameLent keeping.old keeping.new }
-    ensures come { Comes edition text.now at keeping.old uses keeping.new result }
+    ensures arrays { SameArrays states.old states.new }
+    ensures come { Comes edition text.now at keeping.old states.old uses keeping.new states.new result }
 {
     let mut count = uses;
     let mut i = at; // a cursor that moves by a field: no range counts it
@@ -117,7 +122,7 @@ pub fn each(
                     return Err(TextRefused { why, at: p });
                 }
                 Ok(judged) => {
-                    keep_field(text, edition, judged.said, p, keeping, count);
+                    keep_field(text, edition, judged.said, p, keeping, states, count);
                     count = count_use(judged.said, count);
                     i = judged.next;
                 }

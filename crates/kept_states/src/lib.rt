@@ -6,22 +6,22 @@ ghost use Rattle.std.specs.Prelude.{◌≡◌, List, ℕ, [], ◌<◌, eqb, leng
 ghost use Rattle.entry.specs.Handed.{handed_by};
 ghost use Rattle.judge.specs.Judged.{SaidIn};
 ghost use Rattle.compile_laws.specs.Held.{Holds, Keeps, kept};
-ghost use Rattle.kept_states.specs.States.{held, none_held};
+ghost use Rattle.kept_states.specs.States.{held, SameArrays};
 
-use edition::{BOOLEANS_MOST, Edition, NUMBERS_MOST, Place, STRINGS_MOST};
+use edition::{Edition, Place};
 use entry::{ABSENT, Numbers, States as Lent, Strings};
 use text::Said;
 
-// The states of one entry, by place: kinds and contents, as the writer takes them. A present string is the part of the
-// text that starts at its start; its length is how many bytes it stands for.
+// The states of one entry, by place: kinds and contents, as the writer takes them, in arrays of the caller's. A present
+// string is the part of the text that starts at its start; its length is how many bytes it stands for.
 #[derive(Drop)]
-pub struct States {
-    pub boolean_kinds: [u8; BOOLEANS_MOST],
-    pub number_kinds: [u8; NUMBERS_MOST],
-    pub number_values: [u32; NUMBERS_MOST],
-    pub string_kinds: [u8; STRINGS_MOST],
-    pub string_starts: [usize; STRINGS_MOST],
-    pub string_lengths: [usize; STRINGS_MOST],
+pub struct States<'a> {
+    pub boolean_kinds: &'a mut [u8],
+    pub number_kinds: &'a mut [u8],
+    pub number_values: &'a mut [u32],
+    pub string_kinds: &'a mut [u8],
+    pub string_starts: &'a mut [usize],
+    pub string_lengths: &'a mut [usize],
 }
 
 // The capability at a place has no state yet.
@@ -78,41 +78,23 @@ fn keep_string(
     }
 }
 
-impl States {
-    // All states are absent. (All arrays are of zeros, so that one call clears them where they stand: an array of
-    // another word is cleared, filled, and then copied to its place.)
-    pub fn new() -> States
-        ensures { result ≡ none_held }
-    {
-        States {
-            boolean_kinds: [ABSENT; BOOLEANS_MOST],
-            number_kinds: [ABSENT; NUMBERS_MOST],
-            number_values: [0; NUMBERS_MOST],
-            string_kinds: [ABSENT; STRINGS_MOST],
-            string_starts: [0; STRINGS_MOST],
-            string_lengths: [0; STRINGS_MOST],
-        }
-    }
-
+impl States<'_> {
     // Keeps what a field says.
     pub fn keep(&mut self, text: &[u8], edition: Edition, said: Said)
         requires { SaidIn edition text.now said × Holds edition (held self.old text.now []) }
-        ensures { Keeps edition (held self.old text.now) (held self.new text.now) said }
+        ensures lent { SameArrays self.old self.new }
+        ensures kept { Keeps edition (held self.old text.now) (held self.new text.now) said }
     {
         match said {
             Said::Nothing => {}
-            Said::Boolean(place, kind) => keep_boolean(&mut self.boolean_kinds, place, kind),
-            Said::Number(place, kind, value) => keep_number(
-                &mut self.number_kinds,
-                &mut self.number_values,
-                place,
-                kind,
-                value,
-            ),
+            Said::Boolean(place, kind) => keep_boolean(self.boolean_kinds, place, kind),
+            Said::Number(place, kind, value) => {
+                keep_number(self.number_kinds, self.number_values, place, kind, value)
+            }
             Said::String(place, kind, start, size) => keep_string(
-                &mut self.string_kinds,
-                &mut self.string_starts,
-                &mut self.string_lengths,
+                self.string_kinds,
+                self.string_starts,
+                self.string_lengths,
                 place,
                 kind,
                 start,
@@ -127,15 +109,15 @@ impl States {
         ensures { (text names : List ℕ) → handed_by names result text ≡ held self.now text names }
     {
         Lent {
-            boolean_kinds: &self.boolean_kinds,
+            boolean_kinds: &*self.boolean_kinds,
             numbers: Numbers {
-                kinds: &self.number_kinds,
-                values: &self.number_values,
+                kinds: &*self.number_kinds,
+                values: &*self.number_values,
             },
             strings: Strings {
-                kinds: &self.string_kinds,
-                starts: &self.string_starts,
-                lengths: &self.string_lengths,
+                kinds: &*self.string_kinds,
+                starts: &*self.string_starts,
+                lengths: &*self.string_lengths,
             },
         }
     }

@@ -5,7 +5,7 @@
 
 ghost use Rattle.std.specs.Prelude.{[], ◌<◌, length, get_or};
 ghost use Rattle.text.specs.Building.{description_at};
-ghost use Rattle.kept_states.specs.States.{held};
+ghost use Rattle.kept_states.specs.States.{held, SameArrays};
 ghost use Rattle.compile_laws.specs.Held.{Holds};
 ghost use Rattle.compile_laws.specs.Listed.{text_descriptions};
 ghost use Rattle.use_walk.specs.Own.{PutsOwn};
@@ -20,7 +20,8 @@ use use_turns::{Frames, Uses};
 fn put_own(text: &[u8], edition: Edition, commas: &[usize], d: usize, states: &mut States)
     requires { (d < length commas.now) × (FieldsFrom edition text.now (get_or commas.now d 0)
         (description_at (text_descriptions edition text.now) d) × Holds edition (held states.old text.now [])) }
-    ensures { PutsOwn edition d (held states.old text.now) (held states.new text.now) }
+    ensures lent { SameArrays states.old states.new }
+    ensures put { PutsOwn edition d (held states.old text.now) (held states.new text.now) }
 {
     // the fields are right, so the answer is no refusal
     let _ = walk_fields::walk(text, commas[d] + 1, edition, states);
@@ -37,7 +38,8 @@ pub fn walk(
 ) -> Result<(), TextRefused>
     requires { (wanted < uses.now.count) × (Arrays edition text.now commas.now uses.now.starts.now uses.now.places.now
         uses.now.targets.now uses.now.count × Holds edition (held states.old text.now [])) }
-    ensures { WalksUses edition wanted (held states.old text.now) (held states.new text.now) result }
+    ensures lent { SameArrays states.old states.new }
+    ensures walked { WalksUses edition wanted (held states.old text.now) (held states.new text.now) result }
 {
     let mut frames = Frames::start(uses, wanted);
     put_own(text, edition, commas, wanted, states);

@@ -3,7 +3,7 @@
 #![tactic(auto)]
 
 ghost use Rattle.std.specs.Prelude.{[]};
-ghost use Rattle.kept_states.specs.States.{held};
+ghost use Rattle.kept_states.specs.States.{held, SameArrays};
 ghost use Rattle.compile_laws.specs.Held.{Holds};
 ghost use Rattle.walk_fields.specs.Walks.{Walks};
 
@@ -21,13 +21,10 @@ pub fn walk(
     states: &mut States,
 ) -> Result<bool, TextRefused>
     requires { Holds edition (held states.old text.now []) }
-    ensures { Walks edition at (held states.old text.now) (held states.new text.now) result }
+    ensures lent { SameArrays states.old states.new }
+    ensures walked { Walks edition at (held states.old text.now) (held states.new text.now) result }
 {
-    let mut keeping = Keeping::States(states);
-    let answer = each_field::each(text, at, edition, &mut keeping, 0);
-    if let Keeping::States(states) = keeping {
-        let _ = states; // they are lent no more
-    }
-    let passed = answer?;
+    let mut keeping = Keeping::States;
+    let passed = each_field::each(text, at, edition, &mut keeping, states, 0)?;
     Ok(passed.next.is_none() && passed.uses == 0)
 }

@@ -2,6 +2,7 @@
 -- Assumes nothing.
 use Prim.Native.Nat.{◌-◌, ◌≤◌}
 use lib.ListN.{length}
+use Rattle.kept_states.specs.States.{SameArrays}
 use Rattle.each_field.specs.Keeping.{SameLent}
 use Rattle.each_field.proofs.KeepingLaws.{Going}
 use Rattle.each_field.proofs.each.Given as goal
@@ -11,7 +12,8 @@ invariant-loop-p l =
     record {
       few : l.count ≤ l.i;
       lent : SameLent l.initial.keeping l.keeping;
-      going : Going l.edition l.text l.at l.initial.keeping l.uses l.i l.keeping l.count;
+      arrays : SameArrays l.initial.states l.states;
+      going : Going l.edition l.text l.at l.initial.keeping l.initial.states l.uses l.i l.keeping l.states l.count;
     }
 
 abbrev pub decreases-loop-p : goal.decreases-loop-p

@@ -1,7 +1,7 @@
 -- `use_walk::walk` meets its contract. The loop's invariant: the walk has come to the frames, and the states of each
--- description that was entered are put.
+-- description that was entered are put, in the caller's arrays.
 -- Assumes nothing.
-use Rattle.kept_states.specs.States.{held}
+use Rattle.kept_states.specs.States.{held, SameArrays}
 use Rattle.use_turns.specs.Held.{arrays_of}
 use Rattle.use_turns.specs.Weight.{weight_at}
 use Rattle.use_walk.proofs.WalkLaws.{Walking}
@@ -9,7 +9,11 @@ use Rattle.use_walk.proofs.walk.Given as goal
 
 abbrev pub invariant-loop-d : goal.invariant-loop-d
 invariant-loop-d l =
-    Walking l.edition (arrays_of l.uses) l.wanted (held l.fn.states l.text) (held l.states l.text) l.frames
+    record {
+      lent : SameArrays l.fn.states l.states;
+      walking :
+          Walking l.edition (arrays_of l.uses) l.wanted (held l.fn.states l.text) (held l.states l.text) l.frames;
+    }
 
 abbrev pub decreases-loop-d : goal.decreases-loop-d
 decreases-loop-d l = weight_at (arrays_of l.uses) l.frames
