@@ -4,9 +4,11 @@
 #![tactic(auto)]
 
 ghost use Rattle.std.specs.Prelude.{◌≡◌, ◌+◌, ◌≤◌, length, Err};
+ghost use Rattle.base.specs.Answer.{number_of};
 ghost use Rattle.entry.specs.Asking.{part_given, names_given};
 ghost use Rattle.entry.specs.Says.{says_asked, says_file, says_state};
 ghost use Rattle.states.specs.Held.{IsPart};
+ghost use Rattle.refusal_numbers.specs.Refusals.{values_of};
 ghost use Rattle.entry_numbers.specs.Entries.{entry_refusal, entry_names, entry_boolean, entry_number, entry_string};
 ghost use Rattle.entry_numbers.specs.Entries.{entry_beyond, numbers_of, opened, same_edition};
 ghost use Rattle.entry_numbers.specs.Entries.{same_tables, same_beyond, same, says_refusal, refusal_of, refusal_else};
@@ -34,6 +36,27 @@ pub enum EntryRefusal {
     File(FileRefusal),
     // 17: opening would not give the entry
     NotOpened,
+}
+
+impl Refusal for EntryRefusal {
+    ghost refusal_number = { λ why. number_of (says_refusal (Err why)) };
+
+    ghost refusal_values = { λ why. values_of (says_refusal (Err why)) };
+
+    fn number(self) -> u8 {
+        match self {
+            EntryRefusal::File(why) => why.number(),
+            EntryRefusal::NotOpened => 17,
+        }
+    }
+
+    // The position of a file's first bad byte or slot.
+    fn value(self) -> usize {
+        match self {
+            EntryRefusal::File(why) => why.value(),
+            EntryRefusal::NotOpened => 0,
+        }
+    }
 }
 
 const NO_EDITION: Edition = Edition {
