@@ -5,7 +5,7 @@
 
 use std::process::ExitCode;
 use ti_common::words::{Help, Words, count_all, misuse, word_at};
-use ti_common::{Stop, complain, say};
+use ti_common::{Stop, complain, say, written};
 
 mod command;
 mod help;
@@ -36,7 +36,7 @@ fn list_commands(rt: HostRuntime) -> Result<(), Stop> {
 // Says what a command does.
 fn describe(rt: HostRuntime, name: &[u8]) -> Result<(), Stop> {
     if let Some(text) = help::text_of(name) {
-        return say(rt, text);
+        return written(rt, say(rt, text));
     }
     match Command::named(name) {
         Some(command) => command.describe(rt, Help::Whole),

@@ -54,6 +54,11 @@ pub fn complain(rt: HostRuntime, bytes: &[u8]) {
     let _ = rt.stderr().write_all(bytes);
 }
 
+// Writes a number to standard error.
+pub fn complain_number(rt: HostRuntime, n: usize) {
+    let _ = rt.stderr().print(n);
+}
+
 // Says what failed, with the system's reason.
 pub fn fail(rt: HostRuntime, what: &[u8], why: Error) -> Stop {
     complain(rt, b"ti: ");
@@ -69,14 +74,22 @@ pub fn written(rt: HostRuntime, sent: Result<(), Error>) -> Result<(), Stop> {
     sent.map_err(|why| fail(rt, b"standard output", why))
 }
 
-// Writes bytes to standard output.
-pub fn say(rt: HostRuntime, bytes: &[u8]) -> Result<(), Stop> {
-    written(rt, rt.stdout().write_all(bytes))
+// Writes bytes to standard output. Output goes piece by piece: what stands behind a piece that was not written is still
+// tried, and of failures the last is said (`later.and(earlier)`).
+pub fn say(rt: HostRuntime, bytes: &[u8]) -> Result<(), Error> {
+    rt.stdout().write_all(bytes)
+}
+
+// Writes a number to standard output.
+pub fn say_number(rt: HostRuntime, n: usize) -> Result<(), Error> {
+    rt.stdout().print(n)
 }
 
 // Says what was done, and the file's size.
 pub fn say_size(rt: HostRuntime, what: &str, file: &[u8]) -> Result<(), Stop> {
-    written(rt, print!(rt; "{what}{} bytes\n", file.len()))
+    let sent = say(rt, what.as_bytes());
+    let sent = say_number(rt, file.len()).and(sent);
+    written(rt, say(rt, b" bytes\n").and(sent))
 }
 
 // The bytes at the buffer's start, as many as the length says, or all where they are fewer.

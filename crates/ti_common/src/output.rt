@@ -1,7 +1,6 @@
 // Bytes written as people read them.
 ghost use Rattle.std.specs.Prelude.{◌≤◌, length};
 
-use crate::{Stop, written};
 use shown::{NAMES_LEAST, show};
 use std::io::Error;
 
@@ -26,8 +25,8 @@ fn write_shown<P: Print>(to: &P, bytes: &[u8], least: u8) -> Result<(), Error> {
 }
 
 // Writes bytes to standard output, as they are shown.
-pub fn say_shown(rt: HostRuntime, bytes: &[u8], least: u8) -> Result<(), Stop> {
-    written(rt, write_shown(&rt.stdout(), bytes, least))
+pub fn say_shown(rt: HostRuntime, bytes: &[u8], least: u8) -> Result<(), Error> {
+    write_shown(&rt.stdout(), bytes, least)
 }
 
 // Writes a word in quotes to standard error, as it is shown.

@@ -1,7 +1,7 @@
 // The words that a command is given.
 ghost use Rattle.std.specs.Prelude.{◌≤◌, length, IfOk};
 
-use crate::{Stop, complain, fail, reason, say};
+use crate::{Stop, complain, fail, reason, say, written};
 use std::env::FillError;
 use std::io::Error;
 use std::rt::Env;
@@ -77,12 +77,12 @@ pub enum Help {
 
 // Says how a command is called, and, where that is asked, what it does.
 pub fn describe(rt: HostRuntime, help: Help, usage: &[u8], text: &[u8]) -> Result<(), Stop> {
-    say(rt, b"ti ")?;
-    say(rt, usage)?;
-    say(rt, b"\n")?;
+    let sent = say(rt, b"ti ");
+    let sent = say(rt, usage).and(sent);
+    let sent = say(rt, b"\n").and(sent);
     match help {
-        Help::Usage => Ok(()),
-        Help::Whole => say(rt, text),
+        Help::Usage => written(rt, sent),
+        Help::Whole => written(rt, say(rt, text).and(sent)),
     }
 }
 

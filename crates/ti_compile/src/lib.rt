@@ -13,10 +13,11 @@ ghost use Rattle.ti_compile.specs.Asked.{asked};
 use edition::Edition;
 use entry::FILE_MOST;
 use option_words::OwnOption;
+use positions::Position;
 use refusal_numbers::Refusal;
 use text::{CompileRefusal, TEXT_MOST, TextRefused};
-use ti_common::Stop;
 use ti_common::words::{Help, Words, misuse, word_at};
+use ti_common::{Stop, complain, complain_number};
 use ti_options::Options;
 
 mod field;
@@ -46,6 +47,15 @@ struct Source<'a> {
     ghost fits: { length text.now ≤ text_room },
 }
 
+// Says where a text is refused, by line and column.
+fn complain_position(rt: HostRuntime, p: Position) {
+    complain(rt, b":");
+    complain_number(rt, p.line);
+    complain(rt, b":");
+    complain_number(rt, p.column);
+    complain(rt, b": ");
+}
+
 impl<'a> Source<'a> {
     // Says that the text is refused at a place, and shows the line to a terminal.
     fn refuse_at(&self, rt: HostRuntime, refused: TextRefused) -> Stop {
@@ -54,12 +64,12 @@ impl<'a> Source<'a> {
         let number = refusal_numbers::of_text(why);
         ti_refusals::begin(rt, self.path);
         if place == 0 {
-            ti_common::complain(rt, b": ");
+            complain(rt, b": ");
             header::complain_first(rt, why, self.name.unwrap_or(&[]));
             return ti_refusals::end_at(rt, number, 0);
         }
         let p = positions::position_of(self.text, place);
-        let _ = eprint!(rt; ":{p}: ");
+        complain_position(rt, p);
         if p.column == 1 {
             header::complain_later(rt, why);
         } else {

@@ -17,10 +17,11 @@ use option_words::OwnOption;
 use refusal_numbers::Refusal;
 use show_names::OpenFile;
 use shown::CONTENT_LEAST;
+use std::io::Error;
 use ti_arguments::TEXTS_ROOM;
 use ti_common::output::{complain_quoted, say_shown};
 use ti_common::words::{Help, Words, misuse};
-use ti_common::{FILE_ROOM, Stop, complain, say, written};
+use ti_common::{FILE_ROOM, Stop, complain, say, say_number, written};
 use ti_options::Options;
 
 mod opened;
@@ -51,15 +52,23 @@ struct Call<'a> {
     is_verbose: bool,
 }
 
+// Says a count, what is counted and the most that it can be.
+fn say_count(rt: HostRuntime, count: usize, what: &[u8], most: usize) -> Result<(), Error> {
+    let sent = say_number(rt, count);
+    let sent = say(rt, what).and(sent);
+    let sent = say(rt, b" (at most ").and(sent);
+    let sent = say_number(rt, most).and(sent);
+    say(rt, b")").and(sent)
+}
+
 // Writes the output of a string as it is shown, the steps and the bytes, each with its bound.
-fn say_verbose(rt: HostRuntime, output: &[u8], steps: usize, most: Bounds) -> Result<(), Stop> {
-    say_shown(rt, output, CONTENT_LEAST)?;
-    let n = output.len();
-    let sent = print!(rt;
-        "\n{steps} steps (at most {}), {n} bytes (at most {})\n",
-        most.steps, most.bytes
-    );
-    written(rt, sent)
+fn say_verbose(rt: HostRuntime, output: &[u8], steps: usize, most: Bounds) -> Result<(), Error> {
+    let sent = say_shown(rt, output, CONTENT_LEAST);
+    let sent = say(rt, b"\n").and(sent);
+    let sent = say_count(rt, steps, b" steps", most.steps).and(sent);
+    let sent = say(rt, b", ").and(sent);
+    let sent = say_count(rt, output.len(), b" bytes", most.bytes).and(sent);
+    say(rt, b"\n").and(sent)
 }
 
 // As many zeros as are asked for.
@@ -159,9 +168,9 @@ impl<'a> Call<'a> {
         most: Bounds,
     ) -> Result<(), Stop> {
         if self.is_verbose {
-            return say_verbose(rt, output, steps, most);
+            return written(rt, say_verbose(rt, output, steps, most));
         }
-        say(rt, output)
+        written(rt, say(rt, output))
     }
 
     // Expands the string at a place, if the file has it, and writes the output; or says why not.

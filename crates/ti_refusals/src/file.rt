@@ -2,7 +2,7 @@
 use bad_slots::BadSlot;
 use edition::{Edition, Kind, Place};
 use entry::FileRefusal;
-use ti_common::complain;
+use ti_common::{complain, complain_number};
 
 // Room for a capability's name.
 const NAME_ROOM: usize = 28;
@@ -27,7 +27,8 @@ fn complain_place(rt: HostRuntime, edition: Edition, kind: Kind, place: Place) {
         complain(rt, b" of ");
         complain_name(rt, kind, place);
     } else {
-        let _ = eprint!(rt; " {}", place.0);
+        complain(rt, b" ");
+        complain_number(rt, place.0);
     }
 }
 

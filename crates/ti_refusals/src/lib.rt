@@ -11,7 +11,7 @@ use entry::{FileRefusal, Opening};
 use refusal_numbers::Refusal;
 use text::CompileRefusal;
 use ti_common::output::complain_quoted;
-use ti_common::{Stop, complain};
+use ti_common::{Stop, complain, complain_number};
 
 mod file;
 
@@ -27,13 +27,19 @@ pub fn begin(rt: HostRuntime, path: &[u8]) {
 
 // Ends a message with document 01's number.
 pub fn end(rt: HostRuntime, number: u8) -> Stop {
-    let _ = eprint!(rt; " (refusal {number})\n");
+    complain(rt, b" (refusal ");
+    complain_number(rt, number as usize);
+    complain(rt, b")\n");
     Stop::Refused
 }
 
 // Ends a message with the number and a byte, counted from 0.
 pub fn end_at(rt: HostRuntime, number: u8, place: usize) -> Stop {
-    let _ = eprint!(rt; " (refusal {number}, byte {place})\n");
+    complain(rt, b" (refusal ");
+    complain_number(rt, number as usize);
+    complain(rt, b", byte ");
+    complain_number(rt, place);
+    complain(rt, b")\n");
     Stop::Refused
 }
 
@@ -48,18 +54,21 @@ pub fn refuse(rt: HostRuntime, path: &[u8], sentence: &[u8], number: u8) -> Stop
 // Says that there is too little room, and how many bytes are needed.
 pub fn refuse_room(rt: HostRuntime, path: &[u8], needed: usize, number: u8) -> Stop {
     begin(rt, path);
-    let _ = eprint!(rt; ": too little room for the output, which needs {needed} bytes");
+    complain(rt, b": too little room for the output, which needs ");
+    complain_number(rt, needed);
+    complain(rt, b" bytes");
     end(rt, number)
 }
 
 // Says that the edition is too large.
 pub fn refuse_edition(rt: HostRuntime) -> Stop {
-    let _ = eprint!(rt;
-        "ti: the edition is too large: at most {} booleans, {} numbers, {} strings",
-        edition::BOOLEANS_MOST,
-        edition::NUMBERS_MOST,
-        edition::STRINGS_MOST
-    );
+    complain(rt, b"ti: the edition is too large: at most ");
+    complain_number(rt, edition::BOOLEANS_MOST);
+    complain(rt, b" booleans, ");
+    complain_number(rt, edition::NUMBERS_MOST);
+    complain(rt, b" numbers, ");
+    complain_number(rt, edition::STRINGS_MOST);
+    complain(rt, b" strings");
     end(rt, CompileRefusal::Edition.number())
 }
 

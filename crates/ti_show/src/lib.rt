@@ -11,8 +11,10 @@ ghost use Rattle.show_lines.specs.Lines.{file_room};
 use edition::Edition;
 use option_words::OwnOption;
 use show_names::OpenFile;
+use std::io::Error;
+use ti_common::reason::too_long;
 use ti_common::words::{Help, Words, count_all, misuse, word_at};
-use ti_common::{FILE_ROOM, Stop, say};
+use ti_common::{FILE_ROOM, Stop, say, written};
 
 // Room for any line of a file.
 const LINE_ROOM: usize = 4 * FILE_ROOM + 128;
@@ -37,48 +39,48 @@ struct Shown<'a> {
 }
 
 impl<'a> Shown<'a> {
-    fn say_names(self, rt: HostRuntime) -> Result<(), Stop> {
+    fn say_names(self, rt: HostRuntime) -> Result<(), Error> {
         let mut line = [0u8; LINE_ROOM];
         let n = show_lines::names_line(self.opened, &mut line);
         say(rt, &line[..n])
     }
 
-    fn say_edition(self, rt: HostRuntime) -> Result<(), Stop> {
+    fn say_edition(self, rt: HostRuntime) -> Result<(), Error> {
         let mut line = [0u8; LINE_ROOM];
         let n = count_lines::edition_line(self.opened.edition, &mut line);
         say(rt, &line[..n])
     }
 
-    fn say_capability(self, rt: HostRuntime, k: usize) -> Result<(), Stop> {
+    fn say_capability(self, rt: HostRuntime, k: usize) -> Result<(), Error> {
         let mut line = [0u8; LINE_ROOM];
         let n = show_lines::capability_line(self.opened, k, &mut line);
         say(rt, &line[..n])
     }
 
-    fn say_beyond(self, rt: HostRuntime) -> Result<(), Stop> {
+    fn say_beyond(self, rt: HostRuntime) -> Result<(), Error> {
         let mut line = [0u8; LINE_ROOM];
         let n = count_lines::beyond_line(self.opened, &mut line);
         say(rt, &line[..n])
     }
 
     // Writes all lines.
-    fn say_all(self, rt: HostRuntime) -> Result<(), Stop> {
-        self.say_names(rt)?;
-        self.say_edition(rt)?;
+    fn say_all(self, rt: HostRuntime) -> Result<(), Error> {
+        let sent = self.say_names(rt);
+        let mut sent = self.say_edition(rt).and(sent);
         for k in 0..show_lines::count(self.opened) {
-            self.say_capability(rt, k)?;
+            sent = self.say_capability(rt, k).and(sent);
         }
-        self.say_beyond(rt)
+        self.say_beyond(rt).and(sent)
     }
 
     // Writes the line of the capability that a name means, or, where it has none, that it is absent.
-    fn say_found(self, rt: HostRuntime, name: &[u8]) -> Result<(), Stop> {
+    fn say_found(self, rt: HostRuntime, name: &[u8]) -> Result<(), Error> {
         let mut line = [0u8; LINE_ROOM];
         let found = lookup::find(name, self.opened.edition);
         let n = show_lines::found_line(self.opened, found, &mut line);
         if n == 0 {
-            say(rt, name)?;
-            return say(rt, b" is absent\n");
+            let sent = say(rt, name);
+            return say(rt, b" is absent\n").and(sent);
         }
         say(rt, &line[..n])
     }
@@ -103,14 +105,23 @@ impl<'a> Shown<'a> {
         Ok(())
     }
 
+    // Writes the line of the capability that the word at a place means.
+    fn say_word(self, rt: HostRuntime, place: usize) -> Result<(), Error> {
+        let mut name = io::buffer();
+        match word_at(rt, place, &mut name) {
+            Ok(name) => self.say_found(rt, name),
+            Err(_) => Err(too_long()),
+        }
+    }
+
     // Shows the capabilities that the words from a place on name: all of them, or none where one is unknown.
     fn say_words(self, rt: HostRuntime, first: usize) -> Result<(), Stop> {
         self.look_up_words(rt, first)?;
+        let mut sent = Ok(());
         for place in first..count_all(rt) {
-            let mut name = io::buffer();
-            self.say_found(rt, word_at(rt, place, &mut name)?)?;
+            sent = self.say_word(rt, place).and(sent);
         }
-        Ok(())
+        written(rt, sent)
     }
 }
 
@@ -134,7 +145,7 @@ fn show<'a>(
         },
     };
     if operands.count(rt) == 1 {
-        return shown.say_all(rt);
+        return written(rt, shown.say_all(rt));
     }
     shown.say_words(rt, operands.first as usize + 1)
 }

@@ -15,9 +15,15 @@ fn say(rt: HostRuntime, bytes: &[u8]) {
     let _ = rt.stdout().write_all(bytes);
 }
 
+fn say_number(rt: HostRuntime, word: &[u8], n: usize) {
+    say(rt, word);
+    let _ = rt.stdout().print(n);
+    say(rt, b"\n");
+}
+
 fn say_lines(rt: HostRuntime, lines: Option<State<u32>>) {
     if let Some(State::Present(n)) = lines {
-        let _ = print!(rt; "\nlines {n}\n");
+        say_number(rt, b"\nlines ", n as usize);
     }
 }
 
@@ -36,7 +42,7 @@ fn say_expansion(rt: HostRuntime, out: &[u8], answer: Result<Output, ExpansionRe
         if length <= out.len() {
             say(rt, &out[..length]);
         }
-        let _ = print!(rt; "\nsteps {steps}\n");
+        say_number(rt, b"\nsteps ", steps);
     }
 }
 
