@@ -27,4 +27,4 @@ loop-bar-preserved c = (
 )
 
 pub returns : goal.returns
-returns c = sym (left_last _ _ c.in_default.ensures) ∙ c.loop-bar.invariant.1
+returns c = grind (arith, common_steps) ∙ sym (left_last _ _ c.in_default.ensures) ∙ c.loop-bar.invariant.1
