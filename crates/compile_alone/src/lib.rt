@@ -21,11 +21,11 @@ use kept_states::States;
 use text::{CompileRefusal, Line, TextRefusal, TextRefused};
 use text_file::UNSET;
 
-// The refusal of the text's first header, or of what stands in its place.
-fn refused(why: TextRefusal) -> Option<Result<usize, CompileRefusal>>
-    ensures { result ≡ Some (Err (Compiles.Refused (record { why = why; at = 0 }))) }
+// A refusal that gives a place.
+fn refused(why: TextRefusal, at: usize) -> Option<Result<usize, CompileRefusal>>
+    ensures { result ≡ Some (Err (Compiles.Refused (record { why = why; at = at }))) }
 {
-    Some(Err(CompileRefusal::Refused(TextRefused { why, at: 0 })))
+    Some(Err(CompileRefusal::Refused(TextRefused { why, at })))
 }
 
 // Compiles the description whose header starts at a place and has its comma at another, if it is alone: None where it
@@ -70,6 +70,7 @@ fn try_fields(
 }
 
 // Compiles the text's first description, whose header starts at a place, if it is alone and wanted.
+#[tactic(auto, using(crate::proofs::Alone::header_bad))]
 fn try_headed(
     text: &[u8],
     at: usize,
@@ -89,7 +90,7 @@ fn try_headed(
             }
             None
         }
-        Err(why) => refused(why),
+        Err(why) => refused(why, 0),
     }
 }
 
@@ -106,8 +107,8 @@ pub fn try_first(
         (wanted_by wanted.entry))) buffer.old buffer.new result }
 {
     match text_lines::line_at(text, 0) {
-        Line::End => refused(TextRefusal::Malformed),
+        Line::End => refused(TextRefusal::Malformed, 0),
         Line::Column(at) => try_headed(text, at, edition, wanted, buffer),
-        Line::Indented(_) => refused(TextRefusal::Malformed),
+        Line::Indented(_) => refused(TextRefusal::Malformed, 0),
     }
 }

@@ -3,7 +3,7 @@
 use mathlib.Core.Path.{sym, ◌∙◌}
 use native.Mathlib.Omega.{arith}
 use Rattle.text_laws.specs.HeadingLaws.{header_right}
-use Rattle.compile_alone.proofs.Alone.{wants_has, header_bad}
+use Rattle.compile_alone.proofs.Alone.{wants_has}
 use Rattle.compile_alone.proofs.try_headed.Goals as goal
 
 pub slice_bounds-is_wanted-count : goal.slice_bounds-is_wanted-count
@@ -20,8 +20,3 @@ try_fields-requires c = (c.requires.0, (c.requires.1.0, sym c.header_at.ensures 
 
 pub returns-then-is_wanted : goal.returns-then-is_wanted
 returns-then-is_wanted c = c.try_fields.ensures _ (wants_has _ _ (sym c.is_wanted.ensures ∙ c.if-is_wanted.true))
-
-pub returns-in-Err : goal.returns-in-Err
-returns-in-Err c =
-    rw c.refused.ensures
-    (header_bad c.args.edition c.args.text.now _ c.args.buffer.now c.args.at c.requires.1.0 _ (sym c.header_at.ensures ∙ c.in-Err.is))
