@@ -74,8 +74,8 @@ pub fn written(rt: HostRuntime, sent: Result<(), Error>) -> Result<(), Stop> {
     sent.map_err(|why| fail(rt, b"standard output", why))
 }
 
-// Writes bytes to standard output. Output goes piece by piece: what stands behind a piece that was not written is still
-// tried, and of failures the last is said (`later.and(earlier)`).
+// Writes bytes to standard output. Each piece of an output is a write of its own, tried also where an earlier one
+// failed; `later.and(earlier)` keeps the last failure, which `written` says.
 pub fn say(rt: HostRuntime, bytes: &[u8]) -> Result<(), Error> {
     rt.stdout().write_all(bytes)
 }

@@ -37,4 +37,5 @@ returns-in-Err c =
     let e : refused 17 [] ≡ asking_names c.args.opened.edition c.args.opened.file.now =
     asking_unopened _ _ _ _ _ _ (ap says_file (sym c.in-Err.is) ∙ c.args.opened.opened)
     in
-    rw (← e) (puts_first (puts_then c.put_text-at.ensures c.put_text.ensures (omega (arith, c.requires))) (omega (arith, c.requires)))
+    let p = puts_then c.put_text-at.ensures c.put_text.ensures (omega (arith, c.requires)) in
+    rw (← e) (puts_first p (omega (arith, c.requires)))
