@@ -1,11 +1,13 @@
 -- Laws of 32-bit values, stated over ℤ and proved by the sign.
 -- Assumes nothing.
 use Rattle.std.proofs.Common.{lt_of_le_of_lt, ◌≡◌, ℕ, zero, suc, ◌+◌, ◌-◌, ◌*◌, ◌/◌, ◌%◌, ◌^◌, ◌<◌, ◌≤◌, Bool, true, false, eqb, ltb, ℤ, pos, negsuc, ◌+ℤ◌, ◌-ℤ◌, ◌*ℤ◌, neg_ℤ, sym, refl, ap, ◌∙◌, ap₂, mul_comm, add-mul, mul-add, sub-add_cancel, div-le_self, arith, to_z-of_z, w32, SFits, to_z, of_z, ltb-false, ltb-true, ne_eqb}
+use native.Mathlib.Nat.{zero-mod}
 use lib.IntN.{sub_ℕ}
 use lib.Signed.{mag, quot_z, rem_z, mag_rem}
+use Rattle.std.specs.Int.{int_wrapping_div}
 use mir.Val.{hbits}
 use mir.Facts.{Fits-of_z}
-use Rattle.signed.specs.Signed.{low32, wrap, divide, remainder, is_zero}
+use Rattle.signed.specs.Signed.{low32, wrap, multiply, divide, remainder, is_zero}
 
 -- ---- calls: values go in and come out as bits, and the result r is in its range
 
@@ -97,6 +99,15 @@ low_mul (negsuc a) (negsuc b) h k =
     four : (x y p m n : ℕ) → x + y ≡ 2 ^ 32 * m → y + p ≡ n * 2 ^ 32 → x % 2 ^ 32 ≡ p % 2 ^ 32
     four x y p m n e f = omega arith
 
+pub product_bits : {a b : ℤ} → SFits w32 a → SFits w32 b → to_z w32 ((of_z w32 a * of_z w32 b) % 2 ^ 32) ≡ multiply a b
+unfolding multiply wrap
+product_bits {a} {b} h k = ap (to_z w32) (low_mul a b h k)
+
+-- the same of a number r with the product's bits n
+pub product_is : {a b r : ℤ} {n : ℕ} → SFits w32 a → SFits w32 b → mag r < 2 ^ hbits w32 → r ≡ to_z w32 n → n ≡ (of_z w32 a * of_z w32 b) % 2 ^ 32
+    → to_z w32 (of_z w32 r) ≡ multiply a b
+product_is {a} {b} {r} h k l e z = again r l ∙ e ∙ ap (to_z w32) z ∙ product_bits h k
+
 -- ---- division
 
 pub zero_of : (z : ℤ) → SFits w32 z → of_z w32 z ≡ 0 → z ≡ pos 0
@@ -130,6 +141,22 @@ unfolding remainder
 rem_is a (pos zero) z = absurd (z refl)
 rem_is a (pos (suc b)) z = rw (ne_eqb (suc b) 0 (λ e. omega arith))
 rem_is a (negsuc b) z = refl
+
+-- what the calls of std answer, with bits that went in and come out
+pub quotient_is : {a b r : ℤ} → SFits w32 a → SFits w32 b → mag r < 2 ^ hbits w32 → r ≡ int_wrapping_div w32 (to_z w32 (of_z w32 a)) (to_z w32 (of_z w32 b))
+    → (of_z w32 b ≡ 0 → ⊥) → to_z w32 (of_z w32 r) ≡ divide a b
+quotient_is {a} {b} h k l e z = called_two (int_wrapping_div w32) h k l e ∙ div_is a b h (λ i. z (ap (of_z w32) i))
+
+pub remainder_is : {a b r : ℤ} → SFits w32 a → SFits w32 b → mag r < 2 ^ hbits w32 → r ≡ rem_z (to_z w32 (of_z w32 a)) (to_z w32 (of_z w32 b))
+    → (of_z w32 b ≡ 0 → ⊥) → to_z w32 (of_z w32 r) ≡ remainder a b
+remainder_is {a} {b} h k l e z = called_two rem_z h k l e ∙ rem_is a b (λ i. z (ap (of_z w32) i))
+
+-- 0 leaves nothing
+pub none_left : {a : ℤ} (b : ℤ) → SFits w32 a → of_z w32 a ≡ 0 → pos 0 ≡ remainder a b
+unfolding remainder
+none_left {a} (pos zero) h e = refl
+none_left {a} (pos (suc b)) h e = rw (zero_of a h e, ne_eqb (suc b) 0 (λ i. omega arith), zero-mod (suc b))
+none_left {a} (negsuc b) h e = rw (zero_of a h e, zero-mod (suc b))
 
 pub rem_fits : (a b : ℤ) → SFits w32 a → SFits w32 (rem_z a b)
 rem_fits a b h = record { sfits = lt_of_le_of_lt (mag_rem a b) h.sfits }

@@ -26,12 +26,14 @@ pub fn wrapping_subtract(a: i32, b: i32) -> i32
     a.wrapping_sub(b)
 }
 
+#[tactic(auto, using(crate::proofs::Laws::product_bits, crate::proofs::Laws::product_is))]
 pub fn wrapping_multiply(a: i32, b: i32) -> i32
     ensures { result ≡ multiply a b }
 {
     a.wrapping_mul(b)
 }
 
+#[tactic(auto, using(crate::proofs::Laws::quotient_is))]
 pub fn quotient(a: i32, b: i32) -> i32
     ensures { result ≡ divide a b }
 {
@@ -41,6 +43,7 @@ pub fn quotient(a: i32, b: i32) -> i32
     a.wrapping_div(b)
 }
 
+#[tactic(auto, using(crate::proofs::Laws::remainder_is, crate::proofs::Laws::none_left))]
 pub fn remainder_of(a: i32, b: i32) -> i32
     ensures { result ≡ remainder a b }
 {
