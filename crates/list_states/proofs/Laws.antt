@@ -28,7 +28,7 @@ use Rattle.entry_laws.specs.Merge.{edition_counts}
 use Rattle.opened_file.specs.Opened.{OpenedAs}
 use Rattle.list_states.specs.declared.ListRefusal.{ListRefusal}
 use Rattle.list_states.specs.declared.ListRefusal.TheVariants as L
-use Rattle.list_states.specs.Listing.{Arrays, arrays, Rooms, rooms_of, present_or, states_of, room_for, listing, arrays_after, Lists, says_listed}
+use Rattle.list_states.specs.Listing.{Arrays, arrays, Rooms, rooms_of, kind_given, present_or, states_of, room_for, listing, arrays_after, Lists, says_listed}
 use Rattle.list_states.specs.Filled.{CountsFit}
 
 -- ---- a loop that fills an array by place
@@ -50,6 +50,12 @@ filled_more g b₀ b i v h e q =
 pub filled_all : (g : ℕ → ℕ) (b₀ b : List ℕ) (i n : ℕ) → i ≡ n → b ≡ put_at b₀ 0 (tabulate g i)
     → b ≡ put_at b₀ 0 (tabulate g n)
 filled_all g b₀ b i n q e = subst (λ (m : ℕ). b ≡ put_at b₀ 0 (tabulate g m)) q e
+
+pub kind_small : {A : Type 0} (a : Answer (State A)) → kind_given a ≤ 2
+kind_small (refused n v) = omega arith
+kind_small (gives absent) = omega arith
+kind_small (gives cancelled) = omega arith
+kind_small (gives (present x)) = omega arith
 
 -- the part of a state that presents one, and the empty part otherwise
 pub part_or : (a : Answer (State Part)) → present_or (record { start = 0; length = 0 }) a ≡ part_given a

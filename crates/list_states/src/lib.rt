@@ -74,7 +74,7 @@ fn list_strings(
     for i in 0..edition.strings {
         let s = opened_file::string_opened(file, edition, t, Place(i));
         let part = opened_file::present_or(s, NO_PART);
-        kinds[i] = opened_file::kind_of(s);
+        kinds[i] = opened_file::kind_of(s); // 2 for a cancelled one
         starts[i] = part.start;
         lengths[i] = part.length;
     }

@@ -218,6 +218,12 @@ module _ {e : Edition} {a : List ℕ} {t : Tables} {b : List ℕ} {u : Tables} (
       string_leaves z =
           record { state = second_string.0 ∙ over_leaves _ _ _ (string_in b (sizes_of b) p) first_string.0 z; lent = second_string.1 }
 
+pub kind_small : {A : Type 0} (w : Answer (State A)) → kind_given w ≤ 2
+kind_small (refused n v) = omega arith
+kind_small (gives absent) = omega arith
+kind_small (gives cancelled) = omega arith
+kind_small (gives (present x)) = omega arith
+
 -- ---- the turns of the loops that fill
 
 module _ (a b : List ℕ) (i : ℕ) where

@@ -3,11 +3,14 @@
 use mathlib.Core.Path.{ap}
 use native.Mathlib.Omega.{arith}
 use Rattle.entry.specs.declared.Part.{Part}
-use Rattle.merge_states.proofs.Laws.{opened_file, start_most, string_stands, string_leaves}
+use Rattle.entry.specs.Says.{says_state}
+use Rattle.merge_states.proofs.Laws.{opened_file, start_most, kind_small, string_stands, string_leaves}
 use Rattle.merge_states.proofs.Both.string.Goals as goal
 
 pub returns-then-kind-ne-ABSENT : goal.returns-then-kind-ne-ABSENT
-returns-then-kind-ne-ABSENT c = string_stands c.requires.0 c.args.place c.requires.1 _ c.string_opened-string.ensures _ _ c.kind_of-kind.ensures c.present_or-part.ensures c.if-kind-ne-ABSENT.true
+returns-then-kind-ne-ABSENT c =
+    let k = kind_small (says_state c.string_opened-string.result) in
+    string_stands c.requires.0 c.args.place c.requires.1 _ c.string_opened-string.ensures _ _ (omega (arith, k, c.kind_of-kind.ensures)) c.present_or-part.ensures c.if-kind-ne-ABSENT.true
 
 pub overflow_add-start : goal.overflow_add-start
 overflow_add-start c =
@@ -17,4 +20,6 @@ overflow_add-start c =
     omega arith
 
 pub returns : goal.returns
-returns c = string_leaves c.requires.0 c.args.place c.requires.1 _ c.string_opened-string.ensures _ _ c.kind_of-kind.ensures c.present_or-part.ensures _ c.string_opened-string-2.ensures _ _ c.kind_of-kind-2.ensures c.present_or-part-2.ensures c.if-kind-ne-ABSENT.false
+returns c =
+    let k = kind_small (says_state c.string_opened-string.result) in
+    string_leaves c.requires.0 c.args.place c.requires.1 _ c.string_opened-string.ensures _ _ c.kind_of-kind.ensures c.present_or-part.ensures _ c.string_opened-string-2.ensures _ _ c.kind_of-kind-2.ensures c.present_or-part-2.ensures (omega (arith, k, c.kind_of-kind.ensures, c.if-kind-ne-ABSENT.false))
