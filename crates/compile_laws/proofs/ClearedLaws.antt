@@ -21,10 +21,6 @@ use Rattle.entry_laws.specs.Merge.{edition_counts}
 abbrev pub zeros : ℕ → List ℕ
 zeros n = replicate n 0
 
--- the start and the length of a string whose kind is absent
-abbrev pub unset : ℕ
-unset = 1
-
 pub zero_at : (n i : ℕ) → get_or (zeros n) i 0 ≡ 0
 zero_at zero i = refl
 zero_at (suc n) zero = refl
@@ -47,13 +43,13 @@ all_absent {A} c kinds (suc n) z =
 
 module _ (e : Edition) (t : List ℕ) where
   abbrev pub cleared : List ℕ → Handed
-  cleared n = handed n (zeros 64) (zeros 64) (zeros 64) (zeros 512) (replicate 512 unset) (replicate 512 unset) t
+  cleared n = handed n (zeros 64) (zeros 64) (zeros 64) (zeros 512) (zeros 512) (zeros 512) t
 
   pub cleared_entry : (n : List ℕ) → text_entry e (cleared n) ≡ bare e n
   cleared_entry n =
       let b = all_absent (λ i. tt) (zeros 64) e.booleans (zero_at 64) in
       let m = all_absent (λ i. get_or (zeros 64) i 0) (zeros 64) e.numbers (zero_at 64) in
-      let s = all_absent (λ i. read_bytes (read_at t (get_or (replicate 512 unset) i 0))) (zeros 512) e.strings (zero_at 512) in
+      let s = all_absent (λ i. read_bytes (read_at t (get_or (zeros 512) i 0))) (zeros 512) e.strings (zero_at 512) in
       λ i. record { names = n; booleans = b i; numbers = m i; strings = s i }
 
   pub cleared_holds : ok_edition e ≡ true → Holds e (cleared [])

@@ -19,10 +19,6 @@ use edition::Edition;
 use entry::{FILE_MOST, GIVEN_NAMES_MOST, PRESENT, States, Strings};
 use text::{CompileRefusal, TextRefusal, TextRefused};
 
-// The start and the length of a string that no field has given: nobody reads them, since its kind is absent. A word
-// whose bytes differ, so that an array is filled by stores of vectors and not by a call.
-pub const UNSET: usize = 1;
-
 // A present string's part of the table: its bytes and its NUL.
 fn put_string(b: &mut [u8], at: usize, start: usize, size: usize, text: &[u8])
     requires { (at + size + 1 ≤ length b.old) × StandsAt text.now start size }
