@@ -1,15 +1,14 @@
 -- Whether two values are equal, by their bits; the bits inverted; and the value of a test.
 -- Assumes nothing.
-use mathlib.Core.Path.{◌≡◌, refl, sym, ap, ◌∙◌}
+use mathlib.Core.Path.{◌≡◌, refl, sym, ap}
 use mathlib.Core.Bool.{Bool, true, false}
-use Prim.Native.Nat.{ℕ, suc, ◌-◌, ◌^◌, ◌<◌}
+use Prim.Native.Nat.{ℕ, suc, ◌-◌, ◌^◌}
 use lib.IntN.{ℤ, pos, negsuc}
-use lib.Signed.{mag}
 use lib.Dec.{eqb}
 use borrow.Author.Tests.{eq-eqb, ne_eqb, eqb-true, eqb-false}
 use mir.Syntax.{w32}
-use mir.Val.{SFits, of_z, to_z, hbits, bool_byte}
-use Rattle.signed.proofs.Laws.{again, same_bits}
+use mir.Val.{SFits, of_z, to_z, bool_byte}
+use Rattle.signed.proofs.Laws.{same_bits}
 use Rattle.expansion.specs.Machine.{equal, inverted, truth}
 
 equal_self : (a : ℤ) → equal a a ≡ true
@@ -32,13 +31,9 @@ equal_bits a b h k = by_test (eqb (of_z w32 a) (of_z w32 b)) refl
     by_test true e = sym (equal_yes a b h k (eqb-true (of_z w32 a) (of_z w32 b) e))
     by_test false e = sym (equal_no a b (eqb-false (of_z w32 a) (of_z w32 b) e))
 
-pub inverted_bits : {v : ℤ} → SFits w32 v → to_z w32 (4294967295 - of_z w32 v) ≡ inverted v
+pub inverted_bits : (v : ℤ) → inverted v ≡ to_z w32 (4294967295 - of_z w32 v)
 unfolding inverted
-inverted_bits h = refl
-
--- the same of a number r with bits n
-pub inverted_is : {v r : ℤ} {n : ℕ} → SFits w32 v → mag r < 2 ^ hbits w32 → r ≡ to_z w32 n → n ≡ 4294967295 - of_z w32 v → to_z w32 (of_z w32 r) ≡ inverted v
-inverted_is {v} {r} h l e z = again r l ∙ e ∙ ap (to_z w32) z ∙ inverted_bits h
+inverted_bits v = refl
 
 pub truth_of : {b : Bool} (t : Bool) {r : ℤ} → r ≡ pos (bool_byte b) → b ≡ t → to_z w32 (of_z w32 r) ≡ truth t
 truth_of true e q = rw (e, q)

@@ -37,7 +37,6 @@ pub fn negated(v: i32) -> i32
 }
 
 // `%~`
-#[tactic(auto, using(crate::proofs::Laws::inverted_bits, crate::proofs::Laws::inverted_is))]
 pub fn inverted(v: i32) -> i32
     ensures { result ≡ inverted v }
 {
