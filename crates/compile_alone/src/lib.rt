@@ -19,6 +19,7 @@ use edition::{BOOLEANS_MOST, Edition, NUMBERS_MOST, STRINGS_MOST};
 use entry::ABSENT;
 use kept_states::States;
 use text::{CompileRefusal, Line, TextRefusal, TextRefused};
+use text_file::UNSET;
 
 // A refusal that gives a place.
 fn refused(why: TextRefusal, at: usize) -> Option<Result<usize, CompileRefusal>>
@@ -46,8 +47,8 @@ fn try_fields(
     let mut number_kinds = [ABSENT; NUMBERS_MOST];
     let mut number_values = [0u32; NUMBERS_MOST];
     let mut string_kinds = [ABSENT; STRINGS_MOST];
-    let mut string_starts = [0usize; STRINGS_MOST];
-    let mut string_lengths = [0usize; STRINGS_MOST];
+    let mut string_starts = [UNSET; STRINGS_MOST];
+    let mut string_lengths = [UNSET; STRINGS_MOST];
     let mut states = States {
         boolean_kinds: &mut boolean_kinds,
         number_kinds: &mut number_kinds,

@@ -19,6 +19,7 @@ use edition::{BOOLEANS_MOST, Edition, NUMBERS_MOST, STRINGS_MOST};
 use entry::ABSENT;
 use kept_states::States;
 use text::{CompileRefusal, DESCRIPTIONS_MOST, TEXT_MOST, TextRefusal, TextRefused};
+use text_file::UNSET;
 use use_names::Headers;
 use use_turns::Uses;
 
@@ -48,8 +49,8 @@ fn compile_used(
     let mut number_kinds = [ABSENT; NUMBERS_MOST];
     let mut number_values = [0u32; NUMBERS_MOST];
     let mut string_kinds = [ABSENT; STRINGS_MOST];
-    let mut string_starts = [0usize; STRINGS_MOST];
-    let mut string_lengths = [0usize; STRINGS_MOST];
+    let mut string_starts = [UNSET; STRINGS_MOST];
+    let mut string_lengths = [UNSET; STRINGS_MOST];
     let mut states = States {
         boolean_kinds: &mut boolean_kinds,
         number_kinds: &mut number_kinds,

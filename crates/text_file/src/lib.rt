@@ -19,6 +19,10 @@ use edition::Edition;
 use entry::{FILE_MOST, GIVEN_NAMES_MOST, PRESENT, States, Strings};
 use text::{CompileRefusal, TextRefusal, TextRefused};
 
+// The start and the length of a string that no field has given: nobody reads them, since its kind is absent. (Zeros are
+// cleared where they stand; a word whose bytes differ was filled by stores of vectors, which took longer.)
+pub const UNSET: usize = 0;
+
 // A present string's part of the table: its bytes and its NUL.
 fn put_string(b: &mut [u8], at: usize, start: usize, size: usize, text: &[u8])
     requires { (at + size + 1 ≤ length b.old) × StandsAt text.now start size }
