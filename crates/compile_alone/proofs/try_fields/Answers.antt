@@ -51,5 +51,5 @@ returns-then-is_alone c = λ w o.
 pub returns-in-Err : goal.returns-in-Err
 returns-in-Err c = λ w o.
     fields_bad c.args.edition c.args.text.now c.args.at c.args.comma c.requires.1.0 c.requires.1.1 _ _
-    (subst (Walks c.args.edition (c.args.comma + 1) (cleared c.args.edition c.args.text.now) _) c.in-Err.is c.walk.ensures.walked)
-    w c.args.buffer.now
+    (subst (Walks c.args.edition (c.args.comma + 1) (cleared c.args.edition c.args.text.now) _) c.in-Err.is
+    c.walk.ensures.walked) w c.args.buffer.now

@@ -14,7 +14,9 @@ loop-p-init c =
       few = c.requires.0;
       lent = same_itself c.args.keeping.now;
       arrays = arrays_themselves c.args.states.now;
-      going = going_start c.args.edition c.args.text.now c.args.at c.args.keeping.now c.args.states.now c.args.uses c.requires.1;
+      going =
+          going_start c.args.edition c.args.text.now c.args.at c.args.keeping.now c.args.states.now c.args.uses
+          c.requires.1;
     }
 
 pub returns-in-End-clause-come : goal.returns-in-End-clause-come
@@ -30,8 +32,8 @@ judge-requires c = (field_place c.args.edition c.args.text.now _ _ (sym c.next_a
 
 pub returns-in-Err-clause-come : goal.returns-in-Err-clause-come
 returns-in-Err-clause-come c =
-    going_refused _ _ _ _ _ _ _ _ _ _ _ _ c.requires.1 c.loop-p.invariant.going (sym c.next_at.ensures ∙ c.in-Indented.is)
-    c.in-Err.ensures.0
+    going_refused _ _ _ _ _ _ _ _ _ _ _ _ c.requires.1 c.loop-p.invariant.going
+    (sym c.next_at.ensures ∙ c.in-Indented.is) c.in-Err.ensures.0
 
 pub keep_field-requires : goal.keep_field-requires
 keep_field-requires c =
