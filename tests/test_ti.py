@@ -4,6 +4,7 @@ Answers are held to the documents' examples and, on generated input in generated
 models.
 """
 
+import fcntl
 import os
 import re
 import resource
@@ -957,6 +958,29 @@ def check_full_disk():
     return runs
 
 
+def check_full_pipe():
+    """An output that takes some bytes and then none: what fits of each piece behind that is written all the same."""
+    put("act", act4.dumped())
+    put("b", b"")
+    full = b"ti: standard output: Resource temporarily unavailable\n"
+    runs = [(["check", "act"], "stdout", 10, b"accepted: ", (2, full)),
+            (["show", "act"], "stdout", 5, b"am\n", (2, full)),
+            (["expand", "-v", "act", "cup", "5", "70"], "stdout", 2, b"\n5", (2, full)),
+            (["check", "b"], "stderr", 2, b"b1", (1, b""))]
+    for words, stream, room, fits, ends in runs:
+        given, taken = os.pipe()
+        size = fcntl.fcntl(taken, fcntl.F_SETPIPE_SZ, resource.getpagesize())
+        os.set_blocking(taken, False)
+        os.write(taken, bytes(size - room))
+        streams = {"stdout": subprocess.PIPE, "stderr": subprocess.PIPE, stream: taken}
+        done = subprocess.run([TI, *words], cwd=folder, check=False, **streams)
+        os.close(taken)
+        with open(given, "rb") as pipe:
+            same(pipe.read()[size - room:], fits, words)
+        same((done.returncode, done.stderr or done.stdout or b""), ends, words)
+    return len(runs)
+
+
 def check_no_rights():
     """A file that may not be read, and a folder that may not be written to.
 
@@ -1034,5 +1058,5 @@ if __name__ == "__main__":
             check_help, check_examples, check_uses, check_wanted, check_names, check_terminal,
             check_failures, check_editions, check_generated, check_files, check_unnamed,
             check_faults, check_merges, check_expansions, check_bad_files, check_long_names,
-            check_closed_streams, check_full_disk, check_no_rights)]
+            check_closed_streams, check_full_disk, check_full_pipe, check_no_rights)]
     print(f"{sum(counts)} runs of ti as stated, on the documents' examples and generated input")
