@@ -101,7 +101,7 @@ module _ {f : List ℤ → Outcome} {v₀ v : List ℤ} {kept b₀ b : List ℕ}
   none_held x = omega (arith, (none_first x).1, T.held)
 
   -- and it is put back
-  back : NoneFits → put_at after 0 (take end kept) ≡ b₀
+  back : NoneFits → put_mid 0 end after (take end kept) ≡ b₀
   back x =
       let e = (none_first x).0 in
       let g : take end kept ≡ take end b = rw ((none_first x).1, e) T.bytes in
@@ -136,9 +136,9 @@ module _ {f : List ℤ → Outcome} {v₀ v : List ℤ} {kept b₀ b : List ℕ}
   refused (no_room o d h g) most j =
       rw g (A.answer_room (length s) (room_with most s) (length b₀) v₀ b₀ (end_of d) (omega (arith, after_same)) (rw d at (ran.within most j)).0)
 
-  pub turn_refused : {x : ExpansionRefusal} {ys b' : List ℕ} → Refuses r (length after) x → ys ≡ take end kept → b' ≡ put_at after 0 ys
-      → Answered v₀ b' (Err x)
-  turn_refused h z e = rw (e, z, back (refuses_none h)) (refused h)
+  pub turn_refused : {x : ExpansionRefusal} {ys : List ℕ} → Refuses r (length after) x → ys ≡ take end kept
+      → Answered v₀ (put_mid 0 end after ys) (Err x)
+  turn_refused n e = rw (e, back (refuses_none n)) (refused n)
 
   module _ {o : Output} (d : r ≡ Ok o) where
     -- a run whose output is in the part

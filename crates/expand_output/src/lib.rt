@@ -17,22 +17,12 @@ ghost use Rattle.expand_output.specs.Answers.{LentAs, KeptAs};
 use expand_run::{RunRefusal, run};
 use expansion::{Argument, ExpansionRefusal, Output};
 
-// Copies the first n bytes.
-fn copy(from: &[u8], n: usize, out: &mut [u8])
-    requires { (n ≤ length from.now) × (n ≤ length out.old) }
-    ensures { out.new ≡ put_at out.old 0 (take n from.now) }
-{
-    for i in 0..n {
-        out[i] = from[i];
-    }
-}
-
 // Keeps a buffer's first bytes, as many as the short buffer holds, and says how many.
 fn keep(out: &[u8], short: &mut [u8]) -> usize
     ensures { KeptAs out.now short.old short.new result }
 {
     let end = out.len().min(short.len());
-    copy(out, end, short);
+    short[..end].copy_from_slice(&out[..end]);
     end
 }
 
@@ -67,13 +57,13 @@ fn expand_right(
     loop {
         match run(s, arguments, texts, lasting, &mut out[..end]) {
             Err(refusal) => {
-                copy(short, end, out);
+                out[..end].copy_from_slice(&short[..end]);
                 *lasting = saved;
                 return Err(refused(refusal));
             }
             Ok(output) => {
                 if out.len() < output.length {
-                    copy(short, end, out);
+                    out[..end].copy_from_slice(&short[..end]);
                     *lasting = saved;
                     return Err(ExpansionRefusal::Room(output.length));
                 }

@@ -12,21 +12,13 @@ loop-refusal-init c = T.trying_start c.keep-end.ensures c.keep-end.auto.short
 pub slice_bounds-run-end : goal.slice_bounds-run-end
 slice_bounds-run-end c = omega (arith, c.loop-refusal.invariant.inside, c.loop-refusal.invariant.same)
 
-pub copy-requires : goal.copy-requires
-copy-requires c =
-    (omega (arith, T.refuses_held c.loop-refusal.invariant c.run.ensures c.run.auto.out (T.stopped c.in-Err.refusal c.in-Err.is refl)), omega (arith, c.loop-refusal.invariant.inside, T.after_same c.loop-refusal.invariant c.run.ensures c.run.auto.out))
-
 pub returns-in-Err : goal.returns-in-Err
 returns-in-Err c =
-    T.turn_refused c.loop-refusal.invariant c.run.ensures c.run.auto.out (T.stopped c.in-Err.refusal c.in-Err.is c.refused.ensures) (grind arith) c.copy.ensures
-
-pub copy-requires-then-out-output : goal.copy-requires-then-out-output
-copy-requires-then-out-output c =
-    (omega (arith, T.refuses_held c.loop-refusal.invariant c.run.ensures c.run.auto.out (T.no_room c.in-Ok.output c.in-Ok.is c.if-out-output.true refl)), omega (arith, c.loop-refusal.invariant.inside, T.after_same c.loop-refusal.invariant c.run.ensures c.run.auto.out))
+    T.turn_refused c.loop-refusal.invariant c.run.ensures c.run.auto.out (T.stopped c.in-Err.refusal c.in-Err.is c.refused.ensures) c.copy_from_slice.ensures.after
 
 pub returns-then-out-output : goal.returns-then-out-output
 returns-then-out-output c =
-    T.turn_refused c.loop-refusal.invariant c.run.ensures c.run.auto.out (T.no_room c.in-Ok.output c.in-Ok.is c.if-out-output.true refl) (grind arith) c.copy-then-out-output.ensures
+    T.turn_refused c.loop-refusal.invariant c.run.ensures c.run.auto.out (T.no_room c.in-Ok.output c.in-Ok.is c.if-out-output.true refl) c.copy_from_slice-then-out-output.ensures.after
 
 pub returns-then-output-end : goal.returns-then-output-end
 returns-then-output-end c = T.turn_done c.loop-refusal.invariant c.run.ensures c.run.auto.out c.in-Ok.is c.if-output-end.true
