@@ -6,19 +6,11 @@ ghost use Rattle.std.specs.Prelude.{◌≡◌, ◌≤◌, min, length};
 ghost use Rattle.positions.specs.Taken.{text_room};
 ghost use Rattle.positions.specs.Position.{line_of, column_of};
 
-use std::fmt;
-
 // Both are counted from 1.
 #[derive(Clone, Copy)]
 pub struct Position {
     pub line: usize,
     pub column: usize,
-}
-
-impl fmt::Display for Position {
-    fn fmt<W: fmt::Write>(&self, f: &mut fmt::Formatter<W>) -> fmt::Result {
-        write!(f, "{}:{}", self.line, self.column)
-    }
 }
 
 // The position of a place in a text; a place past its end is taken for its end.
