@@ -9,7 +9,7 @@ ghost use Rattle.each_field.specs.Each.{Recorded};
 
 use each_field::{Keeping, Passed};
 use edition::Edition;
-use kept_states::States;
+use kept_states::StateArrays;
 use text::TextRefused;
 
 // Judges the fields from the place past a comma on, up to the next header, the text's end or the first bad field, and
@@ -27,7 +27,7 @@ pub fn check(
 {
     let mut keeping = Keeping::Uses(places);
     // no state is kept
-    let mut states = States {
+    let mut states = StateArrays {
         boolean_kinds: &mut [],
         number_kinds: &mut [],
         number_values: &mut [],

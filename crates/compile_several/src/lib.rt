@@ -17,7 +17,7 @@ ghost use Rattle.wanted.specs.Wanted.{wanted_by};
 
 use edition::{BOOLEANS_MOST, Edition, NUMBERS_MOST, STRINGS_MOST};
 use entry::ABSENT;
-use kept_states::States;
+use kept_states::StateArrays;
 use text::{CompileRefusal, DESCRIPTIONS_MOST, TEXT_MOST, TextRefusal, TextRefused};
 use text_file::UNSET;
 use use_names::Headers;
@@ -51,7 +51,7 @@ fn compile_used(
     let mut string_kinds = [ABSENT; STRINGS_MOST];
     let mut string_starts = [UNSET; STRINGS_MOST];
     let mut string_lengths = [UNSET; STRINGS_MOST];
-    let mut states = States {
+    let mut states = StateArrays {
         boolean_kinds: &mut boolean_kinds,
         number_kinds: &mut number_kinds,
         number_values: &mut number_values,

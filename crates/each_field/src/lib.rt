@@ -14,7 +14,7 @@ ghost use Rattle.each_field.specs.Each.{uses_said, said_at};
 ghost use Rattle.each_field.specs.Keeping.{SameLent, Asks, AsksField, KeepsField, Comes};
 
 use edition::Edition;
-use kept_states::States;
+use kept_states::StateArrays;
 use text::{Line, Said, TextRefused};
 
 // What is kept of the fields.
@@ -72,7 +72,7 @@ fn keep_field(
     said: Said,
     p: usize,
     keeping: &mut Keeping,
-    states: &mut States,
+    states: &mut StateArrays,
     uses: usize,
 )
     requires { AsksField edition text.now said p keeping.old states.old uses }
@@ -93,7 +93,7 @@ pub fn each(
     at: usize,
     edition: Edition,
     keeping: &mut Keeping,
-    states: &mut States,
+    states: &mut StateArrays,
     uses: usize,
 ) -> Result<Passed, TextRefused>
     requires { (uses ≤ at) × Asks edition text.now at keeping.old states.old uses }

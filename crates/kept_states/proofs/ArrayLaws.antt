@@ -1,10 +1,10 @@
 -- States stay in the same arrays: of themselves, and from one call to the next.
 -- Assumes nothing.
 use mathlib.Core.Path.{refl, ◌∙◌}
-use Rattle.kept_states.specs.declared.States.{States}
+use Rattle.kept_states.specs.declared.StateArrays.{StateArrays}
 use Rattle.kept_states.specs.States.{SameArrays}
 
-pub arrays_themselves : (s : States) → SameArrays s s
+pub arrays_themselves : (s : StateArrays) → SameArrays s s
 arrays_themselves s =
     record {
       boolean_kinds = refl;
@@ -21,7 +21,7 @@ arrays_themselves s =
       many_lengths = refl;
     }
 
-pub arrays_on : (s z y : States) → SameArrays s z → SameArrays z y → SameArrays s y
+pub arrays_on : (s z y : StateArrays) → SameArrays s z → SameArrays z y → SameArrays s y
 arrays_on s z y p q =
     record {
       boolean_kinds = q.boolean_kinds ∙ p.boolean_kinds;

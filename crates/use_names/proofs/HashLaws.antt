@@ -12,6 +12,8 @@ use lib.Dec.{eqb}
 use lib.ListN.{length, get_or, drop, set, length-set, drop_of_length-le}
 use lib.Seq.{drop-cons, get_or-set_same, get_or-set_other}
 use borrow.Author.Tests.{eq-eqb, ne_eqb}
+use Rattle.std.specs.Int.Bits.{bit_and}
+use Rattle.std.proofs.lemmas.Nat.{and_mask}
 use Rattle.base.specs.If.{when◌then◌else◌}
 use Rattle.base.proofs.IfLaws.{true_false, or_left, or_right, is_false, below_or}
 use Rattle.names.specs.Names.{on_first, parted}
@@ -144,6 +146,10 @@ module _ (names : List ℕ) (d : ℕ) (b : List ℕ) where
           }
 
 -- ---- all descriptions are entered
+
+-- the low byte of a number below 256
+pub low_byte : (d : ℕ) → d < 256 → bit_and d 255 ≡ d
+low_byte d l = and_mask d 8 ∙ omega arith
 
 module _ (t heads commas : List ℕ) (count : ℕ) where
   pub firsts_none : (a : List ℕ) → length a ≡ hashes_count → Firsts t heads commas count a count

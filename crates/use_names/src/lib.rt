@@ -77,6 +77,14 @@ fn enter_names(names: &[u8], d: u8, firsts: &mut [u8; HASHES])
     }
 }
 
+// A description's number as a byte, its low one, which below 256 is the number. (A text has 64 at most.)
+#[tactic(auto, using(crate::proofs::HashLaws::low_byte))]
+fn byte_of(d: usize) -> u8
+    ensures { d < 256 → result ≡ d }
+{
+    (d & 0xff) as u8
+}
+
 // Where the headers of a text's descriptions stand: each begins at its head, and its names end at its comma.
 #[derive(Clone, Copy)]
 pub struct Headers<'a> {
@@ -121,18 +129,19 @@ impl<'a> Headers<'a> {
 
     // Enters all descriptions, the last first: at a hash of several names stands the first description that has one.
     fn enter_all(&self, firsts: &mut [u8; HASHES])
-        requires { (self.now.count ≤ descriptions_most) × (length firsts.old ≡ hashes_count) }
-        ensures { Firsts self.now.text.now self.now.heads.now self.now.commas.now self.now.count firsts.new 0 }
+        requires { length firsts.old ≡ hashes_count }
+        ensures { self.now.count ≤ descriptions_most
+            → Firsts self.now.text.now self.now.heads.now self.now.commas.now self.now.count firsts.new 0 }
     {
         for d in (0..self.count).rev() {
-            enter_names(self.names(d), d as u8, firsts);
+            enter_names(self.names(d), byte_of(d), firsts);
         }
     }
 
     // The description that has a name, by the table.
     fn find_entered(&self, firsts: &[u8; HASHES], name: &[u8]) -> Option<usize>
-        requires { Firsts self.now.text.now self.now.heads.now self.now.commas.now self.now.count firsts.now 0 }
-        ensures named { (e : Edition) (ds : List Description)
+        ensures named { Firsts self.now.text.now self.now.heads.now self.now.commas.now self.now.count firsts.now 0
+            → (e : Edition) (ds : List Description)
             → Listed e self.now.text.now self.now.heads.now self.now.commas.now self.now.count ds
             → says_named result ≡ having name.now ds }
         ensures below { IfSome result (λ d. d < self.now.count) }
@@ -142,8 +151,8 @@ impl<'a> Headers<'a> {
 
     // Where a use leads whose string starts at a place.
     fn find_used(&self, firsts: &[u8; HASHES], start: usize) -> Option<usize>
-        requires { Firsts self.now.text.now self.now.heads.now self.now.commas.now self.now.count firsts.now 0 }
-        ensures named { (e : Edition) (ds : List Description)
+        ensures named { Firsts self.now.text.now self.now.heads.now self.now.commas.now self.now.count firsts.now 0
+            → (e : Edition) (ds : List Description)
             → Listed e self.now.text.now self.now.heads.now self.now.commas.now self.now.count ds
             → says_named result ≡ having (read_bytes (read_at self.now.text.now start)) ds }
         ensures below { IfSome result (λ d. d < self.now.count) }
@@ -156,8 +165,7 @@ impl<'a> Headers<'a> {
     // Where the first of the uses lead, as many as there are: to the description that has the name, or NO_TARGET. (A
     // number stands for none: an `Option` for each of 3,276 uses would take twice the memory.)
     pub fn resolve(&self, places: &[u16], uses: usize, targets: &mut [u8])
-        requires { (self.now.count ≤ descriptions_most)
-            × ((uses ≤ length places.now) × (uses ≤ length targets.old)) }
+        requires { (uses ≤ length places.now) × (uses ≤ length targets.old) }
         ensures { (e : Edition) (ds : List Description)
             → Listed e self.now.text.now self.now.heads.now self.now.commas.now self.now.count ds
             → Targets self.now.text.now ds places.now targets.new uses }
@@ -167,7 +175,7 @@ impl<'a> Headers<'a> {
         for i in 0..uses {
             targets[i] = match self.find_used(&firsts, places[i] as usize + 4) {
                 None => NO_TARGET,
-                Some(d) => d as u8,
+                Some(d) => byte_of(d),
             };
         }
     }

@@ -1,7 +1,7 @@
 -- `use_walk::walk` meets its contract. The loop's invariant: the walk has come to the frames, and the states of each
 -- description that was entered are put, in the caller's arrays.
 -- Assumes nothing.
-use Rattle.kept_states.specs.States.{held, SameArrays}
+use Rattle.kept_states.specs.States.{held_in, SameArrays}
 use Rattle.use_turns.specs.Held.{arrays_of}
 use Rattle.use_turns.specs.Weight.{weight_at}
 use Rattle.use_walk.proofs.WalkLaws.{Walking}
@@ -12,7 +12,8 @@ invariant-loop-d l =
     record {
       lent : SameArrays l.fn.states l.states;
       walking :
-          Walking l.edition (arrays_of l.uses) l.wanted (held l.fn.states l.text) (held l.states l.text) l.frames;
+          Walking l.edition (arrays_of l.uses) l.wanted (held_in l.fn.states l.text) (held_in l.states l.text)
+          l.frames;
     }
 
 abbrev pub decreases-loop-d : goal.decreases-loop-d

@@ -6,5 +6,5 @@ use Rattle.use_names.proofs.Headers.find_entered.Goals as goal
 
 pub returns-clause-named : goal.returns-clause-named
 returns-clause-named c =
-    λ e ds l. found_having e _ _ _ _ ds l _ _
-    (λ d m k. firsts_before _ _ _ _ _ c.requires _ d m (rw c.hash_of.ensures.0 at k)) _ c.find_from.ensures
+    λ f e ds l. found_having e _ _ _ _ ds l _ _
+    (λ d m k. firsts_before _ _ _ _ _ f _ d m (rw c.hash_of.ensures.0 at k)) _ c.find_from.ensures

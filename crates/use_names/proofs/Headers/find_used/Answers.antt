@@ -13,10 +13,10 @@ use Rattle.use_names.proofs.Headers.find_used.Goals as goal
 
 pub returns-in_err-n-clause-named : goal.returns-in_err-n-clause-named
 returns-in_err-n-clause-named c =
-    λ e ds l. ap says_named c.from_residual.ensures
+    λ f e ds l. ap says_named c.from_residual.ensures
     ∙ sym (nobody_has e _ _ _ _ ds l _ (reads_long _ _ _ _ c.read.ensures c.in_err-n.was))
 
 pub returns-clause-named : goal.returns-clause-named
 returns-clause-named c =
-    λ e ds l. ap says_named (grind (arith, common_steps)) ∙ c.find_entered.ensures.named e ds l
+    λ f e ds l. ap says_named (grind (arith, common_steps)) ∙ c.find_entered.ensures.named f e ds l
     ∙ ap (λ (s : List ℕ). having s ds) (reads_name _ _ _ _ c.read.ensures _ c.in_ok-n.was).1

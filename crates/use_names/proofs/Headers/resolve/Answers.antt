@@ -12,8 +12,16 @@ pub loop-i-preserved : goal.loop-i-preserved
 loop-i-preserved c =
     λ e ds l. targets_more _ ds _ _ _ _ (omega arith) (c.loop-i.invariant e ds l)
     (elim c.match-find_used.branch [
-      | in-None w ↦ w.targets-is ∙ ap target_of (sym (ap says_named w.in-None.is) ∙ c.find_used.ensures.named e ds l)
-      | in-Some w ↦ w.targets-is ∙ ap target_of (sym (ap says_named w.in-Some.is) ∙ c.find_used.ensures.named e ds l)
+      | in-None w ↦
+          w.targets-is
+          ∙ ap target_of (sym (ap says_named w.in-None.is)
+          ∙ c.find_used.ensures.named (c.enter_all.ensures l.few) e ds l)
+      | in-Some w ↦
+          let b = rw w.in-Some.is at c.find_used.ensures.below in
+          let m = l.few in
+          w.targets-is ∙ w.byte_of.ensures (omega arith)
+          ∙ ap target_of (sym (ap says_named w.in-Some.is)
+          ∙ c.find_used.ensures.named (c.enter_all.ensures l.few) e ds l)
     ])
 
 pub returns : goal.returns

@@ -1,10 +1,10 @@
--- `kept_states::States::keep` meets its contract: one law for each kind of capability.
+-- `kept_states::StateArrays::keep` meets its contract: one law for each kind of capability.
 -- Assumes nothing.
 use mathlib.Core.Path.{subst}
 use native.Mathlib.Omega.{arith}
 use Rattle.judge.specs.Judged.{SaidIn}
 use Rattle.compile_laws.proofs.KeepLaws.{keeps_nothing, keeps_use, keeps_boolean, keeps_number, keeps_string}
-use Rattle.kept_states.proofs.States.keep.Goals as goal
+use Rattle.kept_states.proofs.StateArrays.keep.Goals as goal
 
 pub keep_boolean-requires : goal.keep_boolean-requires
 keep_boolean-requires c =
