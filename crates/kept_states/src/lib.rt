@@ -190,18 +190,18 @@ mod tests {
     use super::*;
     use entry::PRESENT;
 
-    const EDITION: Edition = Edition {
-        booleans: 21,
-        numbers: 16,
-        strings: 174,
+    const THREE_NUMBERS: Edition = Edition {
+        booleans: 0,
+        numbers: 3,
+        strings: 0,
     };
 
     // The first of two fields stands, and what no field says is absent.
     #[test]
     fn first_number_stands(rt: HostRuntime) {
         let mut states = States::new();
-        states.keep(b"", EDITION, Said::Number(Place(2), PRESENT, 24));
-        states.keep(b"", EDITION, Said::Number(Place(2), PRESENT, 25));
+        states.keep(b"", THREE_NUMBERS, Said::Number(Place(2), PRESENT, 24));
+        states.keep(b"", THREE_NUMBERS, Said::Number(Place(2), PRESENT, 25));
         let lent = states.lent();
         assert_eq!(rt; lent.numbers.kinds.get(2).copied(), Some(PRESENT));
         assert_eq!(rt; lent.numbers.values.get(2).copied(), Some(24));
